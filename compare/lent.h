@@ -1,0 +1,37 @@
+/* Memory to lend to a call, between guard bytes, and what the call must have left of it. */
+#ifndef LENT_H
+#define LENT_H
+
+#include <stdint.h>
+#include <stdio.h>
+#include <string.h>
+
+enum { LENT_MOST = 65536, GUARD = 64 };
+
+typedef struct {
+    uint8_t memory[GUARD + LENT_MOST + GUARD];
+    uint8_t wanted[GUARD + LENT_MOST + GUARD];
+    size_t length;
+} lent;
+
+/* Fills `length` bytes and the guards around them with one byte, and lends them. */
+static inline uint8_t *lend(lent *l, size_t length, uint8_t fill) {
+    memset(l->memory, fill, GUARD + length + GUARD);
+    memset(l->wanted, fill, GUARD + length + GUARD);
+    l->length = length;
+    return l->memory + GUARD;
+}
+
+/* The bytes that are to stand in the lent memory afterwards, to be changed by whoever says what is right. */
+static inline uint8_t *wanted(lent *l) { return l->wanted + GUARD; }
+
+/* The first place, counted from the lent memory's start, whose byte is not the wanted one; -GUARD - 1 where none is. */
+static inline long first_difference(const lent *l) {
+    for (size_t i = 0; i < GUARD + l->length + GUARD; i++)
+        if (l->memory[i] != l->wanted[i]) return (long)i - GUARD;
+    return -GUARD - 1;
+}
+
+static inline int all_wanted(const lent *l) { return first_difference(l) == -GUARD - 1; }
+
+#endif

@@ -1,0 +1,2 @@
+pub mod BothSides
+pub mod Determined

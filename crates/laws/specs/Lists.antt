@@ -1,0 +1,22 @@
+-- Laws on lists of numbers. Assumes nothing.
+use Prim.Native.Nat.{ℕ, zero, suc, _+_, _<_}
+use mathlib.Core.List.{List, [], _∷_, _++_, map}
+use mathlib.Core.Path.{_≡_, refl, ap}
+use native.Mathlib.Nat.{not-suc-le-zero, le-of-suc-le-suc}
+use native.Mathlib.Numerals.{add-one}
+use lib.ListN.{length, getD, take, drop, set}
+
+pub map-at : (f : ℕ → ℕ) (l : List ℕ) (i : ℕ) → i < length l → getD (map f l) i 0 ≡ f (getD l i 0)
+map-at f [] i h = absurd (not-suc-le-zero h)
+map-at f (x ∷ l) zero h = refl
+map-at f (x ∷ l) (suc i) h = map-at f l i (le-of-suc-le-suc h)
+
+-- A list that is filled from the front with another, one store a turn, is `take i new ++ drop i old` after i turns.
+fill-suc : (new old : List ℕ) (i : ℕ) → i < length new → i < length old → set (take i new ++ drop i old) i (getD new i 0) ≡ take (suc i) new ++ drop (suc i) old
+fill-suc [] old i h g = absurd (not-suc-le-zero h)
+fill-suc (x ∷ new) [] i h g = absurd (not-suc-le-zero g)
+fill-suc (x ∷ new) (y ∷ old) zero h g = refl
+fill-suc (x ∷ new) (y ∷ old) (suc i) h g = ap (λ (l : List ℕ). x ∷ l) (fill-suc new old i (le-of-suc-le-suc h) (le-of-suc-le-suc g))
+
+pub fill-more : (new old : List ℕ) (i : ℕ) → i < length new → i < length old → set (take i new ++ drop i old) i (getD new i 0) ≡ take (i + 1) new ++ drop (i + 1) old
+fill-more new old i h g = rw add-one (fill-suc new old i h g)

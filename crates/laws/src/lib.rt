@@ -1,0 +1,1 @@
+// Laws on lists that several crates cite: no code, and specs/ has them all.

@@ -1,0 +1,62 @@
+-- Calls that write into an output that the host lends: table making, the sender and the builder. Assumes nothing.
+use Prim.Native.Nat.{ℕ, _≤_, _<_}
+use mathlib.Core.Bool.{cond}
+use mathlib.Core.List.{List, _++_}
+use mathlib.Core.Path.{_≡_, refl, sym, _∙_}
+use native.Mathlib.Omega.{arith}
+use borrow.Author.Tests.{lt-ltb, le-ltb}
+use lib.Dec.{ltb}
+use lib.ListN.{length, drop}
+use Rattle.replies.specs.Reply
+use Rattle.replies.specs.declared.Written.{Written}
+
+-- What such a call decides, the room in the output aside: to refuse with a number, or to write these bytes.
+pub data Decision : Type 0 where
+  refuse : ℕ → Decision
+  write : List ℕ → Decision
+
+-- Its last check, under a number of its own: the output is too short for exactly these bytes.
+abbrev pub fitted : ℕ → List ℕ → Decision → Decision
+fitted short before (refuse n) = refuse n
+fitted short before (write bytes) = cond (ltb (length before) (length bytes)) (refuse short) (write bytes)
+
+-- A refusal answers its number and length 0; success answers the length written.
+abbrev pub refused : ℕ → Written
+refused n = record { reply = n; length = 0 }
+
+abbrev pub succeeded : ℕ → Written
+succeeded n = record { reply = Reply.success; length = n }
+
+abbrev pub answerOf : Decision → Written
+answerOf (refuse n) = refused n
+answerOf (write bytes) = succeeded (length bytes)
+
+-- A refusal leaves the output as it was; success writes the bytes in front and leaves what is past them.
+abbrev pub outputOf : List ℕ → Decision → List ℕ
+outputOf before (refuse n) = before
+outputOf before (write bytes) = bytes ++ drop (length bytes) before
+
+-- The outcome of such a call: what it answers, and the output before and after.
+pub record Writes (short : ℕ) (decision : Decision) (before : List ℕ) (w : Written) (after : List ℕ) : Type 0 where
+  pub answer : w ≡ answerOf (fitted short before decision)
+  pub output : after ≡ outputOf before (fitted short before decision)
+
+-- ---- laws
+
+pub writes-determined : {short : ℕ} {d : Decision} {before : List ℕ} {w w′ : Written} {after after′ : List ℕ} → Writes short d before w after → Writes short d before w′ after′ → (w ≡ w′) × (after ≡ after′)
+writes-determined a b = (a .answer ∙ sym (b .answer), a .output ∙ sym (b .output))
+
+pub writes-refused : {short n : ℕ} {before : List ℕ} {w : Written} → w ≡ refused n → Writes short (refuse n) before w before
+writes-refused e = record { answer = e; output = refl }
+
+-- n bytes to write, into an output that is shorter, or that holds them
+module _ {short : ℕ} {bytes before : List ℕ} {w : Written} (n : ℕ) (long : length bytes ≡ n) where
+  pub writes-short : length before < n → w ≡ refused short → Writes short (write bytes) before w before
+  writes-short h e =
+      let t = lt-ltb (length before) (length bytes) (omega arith) in
+      record { answer = rw t e; output = rw t }
+
+  pub writes-all : {after : List ℕ} → n ≤ length before → w ≡ succeeded n → after ≡ bytes ++ drop n before → Writes short (write bytes) before w after
+  writes-all h e o =
+      let t = le-ltb (length before) (length bytes) (omega arith) in
+      record { answer = rw (t, long) e; output = rw (t, long) o }

@@ -1,0 +1,2 @@
+pub mod Quantiser
+pub mod MakeTables

@@ -1,0 +1,38 @@
+# Sourced by the scripts of this repository: what this machine needs to compile C for x86-64, for which Rattle's
+# archives and programs are, and to run the result. It sets
+#   cc_x86     the C compiler for x86-64
+#   emulator   what runs an x86-64 program here; nothing on x86-64
+#   toolchain  the folder of Rattle's own loader and C library
+# and has need_packages, which installs what is missing.
+
+machine=$(uname -m)
+guide=$(rt doc) || { echo "rt, Rattle's command, is not on the path" >&2; exit 1; }
+toolchain=${guide%/docs/START-HERE.md}/on/$machine/toolchain
+case $machine in
+x86_64)
+    cc_x86=cc
+    cc_packages='gcc libc6-dev'
+    emulator=
+    ;;
+aarch64)
+    cc_x86=x86_64-linux-gnu-gcc
+    cc_packages='gcc-x86-64-linux-gnu libc6-dev-amd64-cross'
+    emulator=$toolchain/bin/qemu-x86_64
+    ;;
+*)
+    echo "neither x86-64 nor Arm: $machine" >&2
+    exit 1
+    ;;
+esac
+
+# need_packages COMMAND PACKAGE..: installs Debian's packages where there is no such command yet.
+need_packages() {
+    local command=$1
+    shift
+    command -v "$command" >/dev/null && return
+    echo "installing $* for $command"
+    { apt-get update -qq && DEBIAN_FRONTEND=noninteractive apt-get install -y -qq --no-install-recommends "$@"; } >/dev/null 2>&1
+    command -v "$command" >/dev/null && return
+    echo "cannot install $*: apt-get failed, so there is no $command" >&2
+    return 1
+}
