@@ -3,7 +3,7 @@
 #   cc_x86     the C compiler for x86-64
 #   emulator   what runs an x86-64 program here; nothing on x86-64
 #   toolchain  the folder of Rattle's own loader and C library
-# and has need_packages, which installs what is missing.
+# and has links_c, which tries that compiler, and need, which installs what is missing.
 
 machine=$(uname -m)
 guide=$(rt doc) || { echo "rt, Rattle's command, is not on the path" >&2; exit 1; }
@@ -25,14 +25,16 @@ aarch64)
     ;;
 esac
 
-# need_packages COMMAND PACKAGE..: installs Debian's packages where there is no such command yet.
-need_packages() {
-    local command=$1
+links_c() { echo 'int main(void) { return 0; }' | "$cc_x86" -x c -static -o /dev/null - 2>/dev/null; }
+
+# need TEST PACKAGE..: installs Debian's packages where the test fails, and says so where that does not mend it.
+need() {
+    local test=$1
     shift
-    command -v "$command" >/dev/null && return
-    echo "installing $* for $command"
+    $test && return
+    echo "installing $*"
     { apt-get update -qq && DEBIAN_FRONTEND=noninteractive apt-get install -y -qq --no-install-recommends "$@"; } >/dev/null 2>&1
-    command -v "$command" >/dev/null && return
-    echo "cannot install $*: apt-get failed, so there is no $command" >&2
+    $test && return
+    echo "cannot install $* with apt-get: $test still fails" >&2
     return 1
 }

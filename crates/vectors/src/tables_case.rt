@@ -2,10 +2,10 @@
 // output of LENGTH bytes, at most 4,096, each 7 at first.
 use crate::text::Number;
 use crate::text::next_number;
-use crate::text::number_at;
 use crate::text::write_bytes;
 use crate::text::write_number;
 
+// The length of the case's first word.
 const WORD: usize = 6;
 
 // Whether the line is such a case.

@@ -53,7 +53,7 @@ pub(crate) enum Number {
 }
 
 // The decimal number that begins at a place of the line.
-pub(crate) fn number_at(line: &[u8], at: usize) -> Number {
+fn number_at(line: &[u8], at: usize) -> Number {
     let mut value: u64 = 0;
     let mut i = at;
     while i < line.len() {
@@ -62,7 +62,7 @@ pub(crate) fn number_at(line: &[u8], at: usize) -> Number {
             break;
         }
         value = value * 10 + d;
-        if 4294967295 < value {
+        if 4_294_967_295 < value {
             return Number::None;
         }
         i += 1;
