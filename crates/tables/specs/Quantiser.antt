@@ -2,12 +2,11 @@
 use Prim.Native.Nat.{ℕ, _+_, _-_, _*_, _/_, _%_, _≤_, _<_, min, max}
 use mathlib.Core.Bool.{cond}
 use mathlib.Core.List.{List, [], _∷_, _++_, map}
-use mathlib.Core.Path.{_≡_, refl, sym, _∙_}
+use mathlib.Core.Path.{_≡_, refl, _∙_}
 use native.Mathlib.Omega.{arith}
 use lib.Dec.{leb}
 use lib.ListN.{length, getD, length-append, length-map}
 use Rattle.laws.specs.Each.{Each, each-append, each-map}
-use Rattle.laws.specs.Lists.{map-at}
 
 -- T.81 table K.1, luma: the entry at a row and a column, each 0 to 7
 unfoldable pub lumaAt : ℕ → ℕ → ℕ
@@ -94,10 +93,6 @@ module _ (s : ℕ) where
 
   pub length-made : (entry : ℕ → ℕ → ℕ) → length (map (made s) (inZigzag entry)) ≡ 64
   length-made entry = length-map (inZigzag entry) (made s) ∙ length-in-zigzag entry
-
-  -- an entry made of one that was read at i is the one at i of those made
-  pub made-at : (i : ℕ) (entry : ℕ → ℕ → ℕ) {l : List ℕ} {v : ℕ} → i < 64 → l ≡ inZigzag entry → v ≡ made s (getD l i 0) → v ≡ getD (map (made s) (inZigzag entry)) i 0
-  made-at i entry h e g = g ∙ rw e (sym (map-at (made s) (inZigzag entry) i (omega (arith, length-in-zigzag entry))))
 
   pub length-scaled : length (scaled s) ≡ 128
   unfolding scaled

@@ -1,14 +1,19 @@
 -- `tables::write_tables` meets its contract: after i turns each half of the output has its first i entries made. Assumes nothing.
 use borrow.Author.Needs.{needs}
-use Prim.Native.Nat.{_-_, _≤_}
-use mathlib.Core.List.{map}
-use mathlib.Core.Path.{_≡_, refl}
+use Prim.Native.Nat.{ℕ, _-_, _≤_, _<_}
+use mathlib.Core.List.{List, map}
+use mathlib.Core.Path.{_≡_, refl, sym, _∙_}
 use native.Mathlib.Omega.{arith}
-use lib.ListN.{length, length-set}
-use Rattle.tables.specs.Quantiser.{lumaAt, chromaAt, inZigzag, made, scaled, length-made, made-at}
+use lib.ListN.{length, getD, length-set}
+use Rattle.laws.specs.Lists.{map-at}
+use Rattle.tables.specs.Quantiser.{lumaAt, chromaAt, inZigzag, made, scaled, length-in-zigzag, length-made}
 use Rattle.tables.proofs.Halves.{Filled, filled-more, filled-all}
 use Rattle.tables.proofs.write_tables.Statement.{statement}
 use Rattle.tables.proofs.write_tables.Tie as tie
+
+-- an entry made of one that was read at i is entry i of those made
+made-at : (s i : ℕ) (entry : ℕ → ℕ → ℕ) {l : List ℕ} {v : ℕ} → i < 64 → l ≡ inZigzag entry → v ≡ made s (getD l i 0) → v ≡ getD (map (made s) (inZigzag entry)) i 0
+made-at s i entry h e g = g ∙ rw e (sym (map-at (made s) (inZigzag entry) i (omega (arith, length-in-zigzag entry))))
 
 abbrev Inv-loop : tie.InvT-loop
 Inv-loop scale out₀ luma chroma i₀ out i = (i ≤ 64) × (length out ≡ length out₀) × Filled (map (made scale) (inZigzag lumaAt)) (map (made scale) (inZigzag chromaAt)) out₀ i out
