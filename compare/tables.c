@@ -1,7 +1,9 @@
-/* lj_make_tables against a second table making, written from RFC 2435 section 4.2 and T.81: K.1 and K.2 as T.81 prints
- * them, row by row, and the zigzag order by walking the diagonals. */
+/* lj_make_tables against a second table making, from RFC 2435 section 4.2: K.1 as RFC 2435 prints it and K.2 as document
+ * 01 gives it, both by rows, and T.81's zigzag order by walking the diagonals. */
 #include "../include/ljosvark.h"
 #include "lent.h"
+
+_Static_assert(LJ_SUCCESS == 0 && LJ_Q_NOT_MADE == 34 && LJ_TABLES_OUTPUT == 35, "the header's numbers are document 01's");
 
 static const int k1[8][8] = {
     {16, 11, 10, 16, 24, 40, 51, 61},   {12, 12, 14, 19, 26, 58, 60, 55},
@@ -52,9 +54,11 @@ static int same(uint32_t q, size_t out_len, uint8_t fill, int null) {
     lj_written ours = lj_make_tables(q, null ? NULL : out, out_len);
     compared++;
     if (ours.reply == theirs.reply && ours.length == theirs.length && all_wanted(&output)) return 1;
-    printf("tables differ: q %lu, output of %zu bytes%s, each %u at first: %lu %lu and not %lu %lu, first byte that differs %ld\n",
+    printf("tables differ: q %lu, output of %zu bytes%s, each %u at first: %lu %lu and not %lu %lu; ",
            (unsigned long)q, out_len, null ? " at NULL" : "", fill, (unsigned long)ours.reply, (unsigned long)ours.length,
-           (unsigned long)theirs.reply, (unsigned long)theirs.length, first_difference(&output));
+           (unsigned long)theirs.reply, (unsigned long)theirs.length);
+    if (all_wanted(&output)) printf("no byte differs\n");
+    else printf("the first byte that differs is at %ld\n", first_difference(&output));
     return 0;
 }
 

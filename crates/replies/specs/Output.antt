@@ -2,7 +2,7 @@
 use Prim.Native.Nat.{ℕ, _≤_, _<_}
 use mathlib.Core.Bool.{cond}
 use mathlib.Core.List.{List, _++_}
-use mathlib.Core.Path.{_≡_, refl, sym, _∙_}
+use mathlib.Core.Path.{_≡_, refl, sym, ap, _∙_}
 use native.Mathlib.Omega.{arith}
 use borrow.Author.Tests.{lt-ltb, le-ltb}
 use lib.Dec.{ltb}
@@ -45,6 +45,14 @@ pub record Writes (short : ℕ) (decision : Decision) (before : List ℕ) (w : W
 
 pub writes-determined : {short : ℕ} {d : Decision} {before : List ℕ} {w w′ : Written} {after after′ : List ℕ} → Writes short d before w after → Writes short d before w′ after′ → (w ≡ w′) × (after ≡ after′)
 writes-determined a b = (a .answer ∙ sym (b .answer), a .output ∙ sym (b .output))
+
+-- an answer other than success has length 0, and the output is as it was
+pub refusal-leaves : {short : ℕ} {d : Decision} {before : List ℕ} {w : Written} {after : List ℕ} → Writes short d before w after → (w .reply ≡ Reply.success → ⊥) → (w .length ≡ 0) × (after ≡ before)
+refusal-leaves {short} {d} {before} {w} {after} a refuses = go (fitted short before d) (a .answer) (a .output)
+  where
+    go : (f : Decision) → w ≡ answerOf f → after ≡ outputOf before f → (w .length ≡ 0) × (after ≡ before)
+    go (refuse n) e o = (ap (λ (x : Written). x .length) e, o)
+    go (write bytes) e o = absurd (refuses (ap (λ (x : Written). x .reply) e))
 
 pub writes-refused : {short n : ℕ} {before : List ℕ} {w : Written} → w ≡ refused n → Writes short (refuse n) before w before
 writes-refused e = record { answer = e; output = refl }
