@@ -1,2 +1,5 @@
+pub mod Truth
+pub mod Within
 pub mod Each
+pub mod Any
 pub mod Lists

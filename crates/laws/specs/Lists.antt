@@ -1,10 +1,10 @@
 -- Laws on lists of numbers. Assumes nothing.
-use Prim.Native.Nat.{ℕ, zero, suc, _+_, _<_}
+use Prim.Native.Nat.{ℕ, zero, suc, _+_, _-_, _<_}
 use mathlib.Core.List.{List, [], _∷_, _++_, map}
 use mathlib.Core.Path.{_≡_, refl, ap}
-use native.Mathlib.Nat.{not-suc-le-zero, le-of-suc-le-suc}
+use native.Mathlib.Nat.{not-suc-le-zero, le-of-suc-le-suc, sub-zero, zero-sub, suc-sub-suc}
 use native.Mathlib.Numerals.{add-one}
-use lib.ListN.{length, getD, take, drop, set}
+use lib.ListN.{length, getD, take, drop, set, replicate, length-replicate}
 
 pub map-at : (f : ℕ → ℕ) (l : List ℕ) (i : ℕ) → i < length l → getD (map f l) i 0 ≡ f (getD l i 0)
 map-at f [] i h = absurd (not-suc-le-zero h)
@@ -20,3 +20,12 @@ fill-suc (x ∷ new) (y ∷ old) (suc i) h g = ap (λ (l : List ℕ). x ∷ l) (
 
 pub fill-more : (new old : List ℕ) (i : ℕ) → i < length new → i < length old → set (take i new ++ drop i old) i (getD new i 0) ≡ take (i + 1) new ++ drop (i + 1) old
 fill-more new old i h g = rw add-one (fill-suc new old i h g)
+
+pub drop-replicate : (n m : ℕ) (a : ℕ) → drop n (replicate m a) ≡ replicate (m - n) a
+drop-replicate zero m a = rw (sub-zero m)
+drop-replicate (suc n) zero a = rw (zero-sub (suc n))
+drop-replicate (suc n) (suc m) a = rw (suc-sub-suc m n) (drop-replicate n m a)
+
+-- The same into m places that hold one number a at first.
+pub fill-same : (new : List ℕ) (m a i : ℕ) → i < length new → i < m → set (take i new ++ replicate (m - i) a) i (getD new i 0) ≡ take (i + 1) new ++ replicate (m - (i + 1)) a
+fill-same new m a i h g = rw (← drop-replicate i m a, ← drop-replicate (i + 1) m a) (fill-more new (replicate m a) i h (rw (length-replicate m a) g))

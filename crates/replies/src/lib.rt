@@ -101,3 +101,9 @@ impl Written {
         }
     }
 }
+
+// What a list of checks comes to.
+pub enum Judged {
+    Passed,
+    Refused(u32),
+}

@@ -1,0 +1,45 @@
+-- Going by cases on tests that are joined. Assumes nothing.
+use Prim.Native.Nat.{ℕ}
+use mathlib.Core.Bool.{Bool, true, false, not, _&&_, _||_}
+use mathlib.Core.Path.{_≡_, refl}
+use borrow.Author.Tests.{eq-eqb, ne-eqb, eqb-true, not-false}
+use lib.Dec.{eqb}
+
+pub and-true : (a b : Bool) → (a && b) ≡ true → (a ≡ true) × (b ≡ true)
+and-true true b h = (refl, h)
+and-true false b h = (h, cc)
+
+pub and-false : (b : Bool) → (b && false) ≡ false
+and-false true = refl
+and-false false = refl
+
+pub and-truth : (b : Bool) → (b && true) ≡ b
+and-truth true = refl
+and-truth false = refl
+
+pub or-none : (a b : Bool) → (a || b) ≡ false → (a ≡ false) × (b ≡ false)
+or-none true b h = (h, cc)
+or-none false b h = (refl, h)
+
+pub or-true : (b : Bool) → (b || true) ≡ true
+or-true true = refl
+or-true false = refl
+
+pub or-false : (b : Bool) → (b || false) ≡ b
+or-false true = refl
+or-false false = refl
+
+pub or-assoc : (a b c : Bool) → (a || (b || c)) ≡ (a || b || c)
+or-assoc true b c = refl
+or-assoc false b c = refl
+
+-- whether two numbers differ
+module _ (a b : ℕ) where
+  pub same : a ≡ b → not (eqb a b) ≡ false
+  same e = rw (eq-eqb a b e)
+
+  pub other : (a ≡ b → ⊥) → not (eqb a b) ≡ true
+  other h = rw (ne-eqb a b h)
+
+  pub are-same : not (eqb a b) ≡ false → a ≡ b
+  are-same h = eqb-true a b (not-false (eqb a b) h)

@@ -1,0 +1,29 @@
+-- Whether a number lies within two others, both of them included. Assumes nothing.
+use Prim.Native.Nat.{ℕ, _≤_, _<_}
+use mathlib.Core.Bool.{Bool, true, false, _&&_}
+use mathlib.Core.Path.{_≡_, refl}
+use borrow.Author.Tests.{le-leb, lt-leb, leb-true}
+use lib.Dec.{leb}
+use Rattle.laws.specs.Truth.{and-true, and-false}
+
+unfoldable pub within : ℕ → ℕ → ℕ → Bool
+within low high n = leb low n && leb n high
+
+-- ---- laws
+
+module _ (low high n : ℕ) where
+  pub is-within : low ≤ n → n ≤ high → within low high n ≡ true
+  unfolding within
+  is-within a b = rw (le-leb low n a, le-leb n high b)
+
+  pub is-under : n < low → within low high n ≡ false
+  unfolding within
+  is-under h = rw (lt-leb low n h)
+
+  pub is-over : high < n → within low high n ≡ false
+  unfolding within
+  is-over h = rw (lt-leb n high h) (and-false (leb low n))
+
+  pub within-true : within low high n ≡ true → (low ≤ n) × (n ≤ high)
+  unfolding within
+  within-true e = let t = and-true (leb low n) (leb n high) e in (leb-true low n (t .0), leb-true n high (t .1))

@@ -1,0 +1,68 @@
+-- Checks in order: the first that fails gives the reply. Assumes nothing.
+use Prim.Native.Nat.{ℕ}
+use mathlib.Core.Bool.{Bool, true, false}
+use mathlib.Core.List.{List, [], _∷_, _++_}
+use mathlib.Core.Path.{_≡_, refl, sym, _∙_}
+use native.Mathlib.Omega.{arith}
+use Rattle.laws.specs.Each.{Each}
+use Rattle.replies.specs.declared.Judged.{Judged}
+use Rattle.replies.specs.declared.Judged.the-variants.{Passed, Refused}
+
+infix 68 _when_
+-- A check: the reply that it gives when it fails, and whether it fails.
+pub data Check : Type 0 where
+  _when_ : ℕ → Bool → Check
+
+-- What a list of checks comes to, in their order.
+unfoldable pub judged : List Check → Judged
+judged [] = Passed
+judged ((n when true) ∷ checks) = Refused n
+judged ((n when false) ∷ checks) = judged checks
+
+-- ---- laws
+
+-- all that is left to judge of some checks, since those in front have passed
+pub record Past (checks left : List Check) : Type 0 where
+  pub same : judged checks ≡ judged left
+
+pub start : {checks : List Check} → Past checks checks
+start = record { same = refl }
+
+module _ {checks left : List Check} {n : ℕ} {b : Bool} (past : Past checks (n when b ∷ left)) where
+  pub passes : b ≡ false → Past checks left
+  unfolding judged
+  passes e = record { same = past .same ∙ rw e }
+
+  pub fails : b ≡ true → judged checks ≡ Refused n
+  unfolding judged
+  fails e = past .same ∙ rw e
+
+pub none-left : {checks : List Check} → Past checks [] → judged checks ≡ Passed
+unfolding judged
+none-left past = past .same
+
+never-refused : {n : ℕ} → Passed ≡ Refused n → ⊥
+never-refused e = let z : _≡_ {A = ℕ} 0 1 = cc in omega arith
+
+-- two lists of checks, one after the other
+pub refused-first : {n : ℕ} (a b : List Check) → judged a ≡ Refused n → judged (a ++ b) ≡ Refused n
+unfolding judged
+refused-first [] b e = absurd (never-refused e)
+refused-first ((m when true) ∷ a) b e = e
+refused-first ((m when false) ∷ a) b e = refused-first a b e
+
+pub passed-first : (a b : List Check) → judged a ≡ Passed → judged (a ++ b) ≡ judged b
+unfolding judged
+passed-first [] b e = refl
+passed-first ((m when true) ∷ a) b e = absurd (never-refused (sym e))
+passed-first ((m when false) ∷ a) b e = passed-first a b e
+
+-- where all pass, none fails
+abbrev pub Holds : Check → Type 0
+Holds (n when b) = b ≡ false
+
+pub all-hold : (checks : List Check) → judged checks ≡ Passed → Each Holds checks
+unfolding judged
+all-hold [] e = tt
+all-hold ((n when true) ∷ checks) e = absurd (never-refused (sym e))
+all-hold ((n when false) ∷ checks) e = (refl, all-hold checks e)

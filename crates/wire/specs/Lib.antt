@@ -1,0 +1,9 @@
+pub mod Field
+pub mod Rtp
+pub mod Kind
+pub mod TableSource
+pub mod Main
+pub mod Restart
+pub mod Tables
+pub mod Reading
+pub mod Passed

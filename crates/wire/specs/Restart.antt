@@ -1,0 +1,32 @@
+-- The restart header, behind the main header of types with restart intervals: RFC 2435 section 3.1.7. Assumes nothing.
+use Prim.Native.Nat.{ℕ, _+_, _≤_}
+use mathlib.Core.Bool.{Bool, true, false, cond}
+use mathlib.Core.List.{List}
+use native.Mathlib.Omega.{arith}
+use Rattle.wire.specs.Field.{field}
+use Rattle.wire.specs.Kind.{restartsOf, isWith}
+use Rattle.wire.specs.Main.{main, mainEnd}
+
+--      0                   1                   2                   3
+--      0 1 2 3 4 5 6 7 8 9 0 1 2 3 4 5 6 7 8 9 0 1 2 3 4 5 6 7 8 9 0 1
+--     +-------------------------------+-+-+---------------------------+
+--   8 |           interval            |F|L|           count           |
+--     +-------------------------------+-+-+---------------------------+
+abbrev pub hasRestart : List ℕ → Bool
+hasRestart b = isWith (restartsOf (main b .kind))
+
+unfoldable pub interval : List ℕ → ℕ
+interval b = cond (hasRestart b) (field b mainEnd 2) 0
+
+unfoldable pub restartEnd : List ℕ → ℕ
+restartEnd b = mainEnd + cond (hasRestart b) 4 0
+
+-- ---- laws
+
+pub restart-end-small : (b : List ℕ) → restartEnd b ≤ 12
+unfolding restartEnd
+restart-end-small b = go (hasRestart b)
+  where
+    go : (t : Bool) → mainEnd + cond t 4 0 ≤ 12
+    go true = omega arith
+    go false = omega arith

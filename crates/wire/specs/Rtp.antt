@@ -1,0 +1,91 @@
+-- The RTP headers of a packet, its padding, and what is left for the payload: RFC 3550 sections 5.1 and 5.3.1. Assumes nothing.
+use Prim.Native.Nat.{ℕ, _+_, _-_, _*_, _/_, _%_, _≤_}
+use mathlib.Core.Bool.{Bool, true, false, cond, _&&_, _||_}
+use mathlib.Core.List.{List}
+use mathlib.Core.Path.{_≡_}
+use native.Mathlib.Omega.{arith}
+use borrow.Author.Tests.{ltb-false}
+use lib.Dec.{ltb, eqb}
+use lib.ListN.{length, take, drop}
+use Rattle.laws.specs.Truth.{or-none}
+use Rattle.wire.specs.Field.{byte, field}
+
+-- The fixed header.
+--
+--      0                   1                   2                   3
+--      0 1 2 3 4 5 6 7 8 9 0 1 2 3 4 5 6 7 8 9 0 1 2 3 4 5 6 7 8 9 0 1
+--     +---+-+-+-------+-+-------------+-------------------------------+
+--   0 | V |P|X|  CC   |M|     PT      |           sequence            |
+--     +---+-+-+-------+-+-------------+-------------------------------+
+--   4 |                          time stamp                           |
+--     +---------------------------------------------------------------+
+--   8 |                            source                             |
+--     +---------------------------------------------------------------+
+pub record Fixed : Type 0 where
+  pub version : ℕ
+  pub padding : ℕ
+  pub extension : ℕ
+  pub csrcs : ℕ
+  pub marker : ℕ
+  pub payloadType : ℕ
+  pub time : ℕ
+  pub source : ℕ
+
+abbrev pub fixed : List ℕ → Fixed
+fixed p = record {
+  version = byte p 0 / 64;
+  padding = byte p 0 / 32 % 2;
+  extension = byte p 0 / 16 % 2;
+  csrcs = byte p 0 % 16;
+  marker = byte p 1 / 128;
+  payloadType = byte p 1 % 128;
+  time = field p 4 4;
+  source = field p 8 4;
+}
+
+abbrev pub fixedEnd : ℕ
+fixedEnd = 12
+
+-- Then 4 bytes for each CSRC.
+abbrev pub csrcEnd : List ℕ → ℕ
+csrcEnd p = fixedEnd + 4 * fixed p .csrcs
+
+-- Then, if X is set, the extension: 4 bytes whose last two count the words of 4 bytes that follow.
+--
+--     +-------------------------------+-------------------------------+
+--     |      defined by profile       |         length, words         |
+--     +-------------------------------+-------------------------------+
+unfoldable pub headersEnd : List ℕ → ℕ
+headersEnd p = csrcEnd p + cond (eqb (fixed p .extension) 1) (4 + 4 * field p (csrcEnd p + 2) 2) 0
+
+-- If P is set, the packet's last byte says how many final bytes to drop, itself included.
+unfoldable pub dropped : List ℕ → ℕ
+dropped p = cond (eqb (fixed p .padding) 1) (byte p (length p - 1)) 0
+
+-- It must be at least 1, and no more than the bytes after all RTP headers.
+unfoldable pub paddingBroken : List ℕ → Bool
+paddingBroken p = eqb (fixed p .padding) 1 && (ltb (dropped p) 1 || ltb (length p - headersEnd p) (dropped p))
+
+-- What is left between headers and padding.
+unfoldable pub payloadLength : List ℕ → ℕ
+payloadLength p = length p - dropped p - headersEnd p
+
+unfoldable pub payload : List ℕ → List ℕ
+payload p = take (payloadLength p) (drop (headersEnd p) p)
+
+-- ---- laws
+
+-- a place and a list that are where the RTP headers of a packet end and what is left there, in a packet that can be read
+pub record Left (p : List ℕ) (start : ℕ) (b : List ℕ) : Type 0 where
+  pub place : start ≡ headersEnd p
+  pub bytes : b ≡ payload p
+  pub near : start ≤ 2048
+
+module _ (p : List ℕ) where
+  pub padding-fits : paddingBroken p ≡ false → dropped p ≤ length p - headersEnd p
+  unfolding paddingBroken dropped
+  padding-fits e = go (eqb (fixed p .padding) 1) e
+    where
+      go : (t : Bool) → (t && (ltb (cond t (byte p (length p - 1)) 0) 1 || ltb (length p - headersEnd p) (cond t (byte p (length p - 1)) 0))) ≡ false → cond t (byte p (length p - 1)) 0 ≤ length p - headersEnd p
+      go true h = ltb-false (length p - headersEnd p) (byte p (length p - 1)) (or-none (ltb (byte p (length p - 1)) 1) (ltb (length p - headersEnd p) (byte p (length p - 1))) h .1)
+      go false h = omega arith

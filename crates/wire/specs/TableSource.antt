@@ -1,0 +1,64 @@
+-- Where a picture's quantiser tables come from, by its Q: RFC 2435 sections 3.1.4 and 4.2. Assumes nothing.
+use Prim.Native.Nat.{ℕ, _≤_, _<_}
+use mathlib.Core.Bool.{Bool, true, false, cond}
+use mathlib.Core.Path.{_≡_, refl}
+use native.Mathlib.Omega.{arith}
+use borrow.Author.Tests.{eq-eqb, ne-eqb}
+use lib.Dec.{eqb}
+use Rattle.laws.specs.Within.{within, is-within, is-under, is-over}
+use Rattle.wire.specs.declared.TableSource.{TableSource}
+use Rattle.wire.specs.declared.TableSource.the-variants.{Made, KeptOrBrought, AlwaysBrought, Reserved}
+
+-- Q 1 to 99: made by rule. 128 to 254: brought by the picture, or kept from an earlier one of that Q. 255: brought by each picture.
+unfoldable pub tableSource : ℕ → TableSource
+tableSource q =
+    cond (within 1 99 q) Made
+    (cond (within 128 254 q) KeptOrBrought
+    (cond (eqb q 255) AlwaysBrought
+    Reserved))
+
+abbrev pub isReserved : TableSource → Bool
+isReserved Made = false
+isReserved KeptOrBrought = false
+isReserved AlwaysBrought = false
+isReserved Reserved = true
+
+abbrev pub isAlwaysBrought : TableSource → Bool
+isAlwaysBrought Made = false
+isAlwaysBrought KeptOrBrought = false
+isAlwaysBrought AlwaysBrought = true
+isAlwaysBrought Reserved = false
+
+-- the first packet of such a picture has a table header
+abbrev pub isInBand : TableSource → Bool
+isInBand Made = false
+isInBand KeptOrBrought = true
+isInBand AlwaysBrought = true
+isInBand Reserved = false
+
+-- ---- laws
+
+module _ (q : ℕ) where
+  pub reserved-0 : q < 1 → tableSource q ≡ Reserved
+  unfolding tableSource
+  reserved-0 h = rw (is-under 1 99 q h, is-under 128 254 q (omega arith), ne-eqb q 255 (λ e. omega arith))
+
+  pub made-to-99 : 1 ≤ q → q ≤ 99 → tableSource q ≡ Made
+  unfolding tableSource
+  made-to-99 a b = rw (is-within 1 99 q a b)
+
+  pub reserved-to-127 : 99 < q → q < 128 → tableSource q ≡ Reserved
+  unfolding tableSource
+  reserved-to-127 a b = rw (is-over 1 99 q a, is-under 128 254 q b, ne-eqb q 255 (λ e. omega arith))
+
+  pub kept-or-brought-to-254 : 128 ≤ q → q ≤ 254 → tableSource q ≡ KeptOrBrought
+  unfolding tableSource
+  kept-or-brought-to-254 a b = rw (is-over 1 99 q (omega arith), is-within 128 254 q a b)
+
+  pub reserved-from-256 : 255 < q → tableSource q ≡ Reserved
+  unfolding tableSource
+  reserved-from-256 h = rw (is-over 1 99 q (omega arith), is-over 128 254 q (omega arith), ne-eqb q 255 (λ e. omega arith))
+
+  pub always-brought-255 : q ≡ 255 → tableSource q ≡ AlwaysBrought
+  unfolding tableSource
+  always-brought-255 e = rw (is-over 1 99 q (omega arith), is-over 128 254 q (omega arith), eq-eqb q 255 e)

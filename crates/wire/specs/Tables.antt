@@ -1,0 +1,90 @@
+-- The table header and the tables, in the first packet of a picture whose Q has them in band: RFC 2435 section 3.1.8. Assumes nothing.
+use Prim.Native.Nat.{ℕ, _+_, _%_, _≤_}
+use mathlib.Core.Bool.{Bool, true, false, cond, not, _&&_, _||_}
+use mathlib.Core.List.{List}
+use mathlib.Core.Path.{_≡_, refl}
+use native.Mathlib.Omega.{arith}
+use borrow.Author.Tests.{eq-eqb, ne-eqb}
+use lib.Dec.{eqb}
+use lib.ListN.{take, drop}
+use Rattle.laws.specs.Any.{any}
+use Rattle.laws.specs.Truth.{and-false, and-truth, or-false}
+use Rattle.wire.specs.Field.{byte, field}
+use Rattle.wire.specs.Main.{main}
+use Rattle.wire.specs.Restart.{restartEnd, restart-end-small}
+use Rattle.wire.specs.TableSource.{tableSource, isInBand, isAlwaysBrought}
+
+--      0                   1                   2                   3
+--      0 1 2 3 4 5 6 7 8 9 0 1 2 3 4 5 6 7 8 9 0 1 2 3 4 5 6 7 8 9 0 1
+--     +---------------+---------------+-------------------------------+
+--     |     zero      |   precision   |            length             |
+--     +---------------+---------------+-------------------------------+
+--     |                    `length` bytes of tables                   |
+unfoldable pub hasTableHeader : List ℕ → Bool
+hasTableHeader b = eqb (main b .offset) 0 && isInBand (tableSource (main b .q))
+
+abbrev pub alwaysBrought : List ℕ → Bool
+alwaysBrought b = isAlwaysBrought (tableSource (main b .q))
+
+unfoldable pub tablesLength : List ℕ → ℕ
+tablesLength b = cond (hasTableHeader b) (field b (restartEnd b + 2) 2) 0
+
+-- the two low bits of the precision; the others are ignored
+unfoldable pub precision : List ℕ → ℕ
+precision b = byte b (restartEnd b + 1) % 4
+
+unfoldable pub tablesAt : List ℕ → ℕ
+tablesAt b = restartEnd b + cond (hasTableHeader b) 4 0
+
+-- What is behind the tables is scan data.
+unfoldable pub scanAt : List ℕ → ℕ
+scanAt b = tablesAt b + tablesLength b
+
+abbrev pub tables : List ℕ → List ℕ
+tables b = take (tablesLength b) (drop (tablesAt b) b)
+
+abbrev pub isZero : ℕ → Bool
+isZero v = eqb v 0
+
+-- The table rule: 8-bit entries, none of them 0; a length of 0 or 128; not 0 where each picture brings its tables.
+unfoldable pub tableRuleBroken : List ℕ → Bool
+tableRuleBroken b =
+    hasTableHeader b
+    && (not (eqb (precision b) 0)
+    || not (eqb (tablesLength b) 0 || eqb (tablesLength b) 128)
+    || alwaysBrought b && eqb (tablesLength b) 0
+    || any isZero (tables b))
+
+-- ---- laws
+
+module _ (b : List ℕ) where
+  pub tables-at-small : tablesAt b ≤ 16
+  unfolding tablesAt
+  tables-at-small = go (hasTableHeader b)
+    where
+      go : (t : Bool) → restartEnd b + cond t 4 0 ≤ 16
+      go true = omega (arith, restart-end-small b)
+      go false = omega (arith, restart-end-small b)
+
+  -- what the rule comes to: nothing without a table header, and with one by the precision and the length
+  pub rule-without : hasTableHeader b ≡ false → tableRuleBroken b ≡ false
+  unfolding tableRuleBroken
+  rule-without e = rw e
+
+  module _ (header : hasTableHeader b ≡ true) where
+    pub rule-wide : (precision b ≡ 0 → ⊥) → tableRuleBroken b ≡ true
+    unfolding tableRuleBroken
+    rule-wide h = rw (header, ne-eqb (precision b) 0 h)
+
+    module _ (bytes : precision b ≡ 0) where
+      pub rule-none : tablesLength b ≡ 0 → tableRuleBroken b ≡ alwaysBrought b
+      unfolding tableRuleBroken
+      rule-none e = rw (header, eq-eqb (precision b) 0 bytes, e, and-truth (alwaysBrought b), or-false (alwaysBrought b))
+
+      pub rule-full : tablesLength b ≡ 128 → tableRuleBroken b ≡ any isZero (tables b)
+      unfolding tableRuleBroken
+      rule-full e = rw (header, eq-eqb (precision b) 0 bytes, ne-eqb (tablesLength b) 0 (λ z. omega arith), eq-eqb (tablesLength b) 128 e, and-false (alwaysBrought b))
+
+      pub rule-other : (tablesLength b ≡ 0 → ⊥) → (tablesLength b ≡ 128 → ⊥) → tableRuleBroken b ≡ true
+      unfolding tableRuleBroken
+      rule-other h g = rw (header, eq-eqb (precision b) 0 bytes, ne-eqb (tablesLength b) 0 h, ne-eqb (tablesLength b) 128 g)

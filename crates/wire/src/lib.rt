@@ -1,0 +1,225 @@
+// What a packet says: the reader of RTP packets with JPEG scan data.
+mod field;
+mod jpeg;
+mod restart;
+mod rtp;
+mod table_header;
+
+ghost use Prim.Native.Nat.{_-_, _≤_};
+ghost use mathlib.Core.List.{_++_};
+ghost use mathlib.Core.Path.{_≡_};
+ghost use lib.ListN.{length, take, replicate};
+ghost use Rattle.wire.specs.Kind.{restartsOf, isWith, isOther};
+ghost use Rattle.replies.specs.Checks.{judged};
+ghost use Rattle.wire.specs.Reading.{reading, answered, jpegChecks, said, partOf, tablesIn};
+ghost use Rattle.wire.specs.Rtp.{Left};
+ghost use Rattle.wire.specs.Tables.{scanAt};
+ghost use Rattle.wire.specs.TableSource.{tableSource, isInBand, isAlwaysBrought, isReserved};
+use crate::field::byte_at;
+use crate::field::u24_at;
+use crate::field::u32_at;
+use crate::table_header::tables_at;
+use crate::table_header::tables_length;
+use replies::Judged;
+
+// What stands in the headers of every packet of a picture.
+pub struct Header {
+    pub kind: u32,
+    pub q: u32,
+    pub width: u32,
+    pub height: u32,
+    pub interval: u32,
+}
+
+// A part of a packet: its place, and how many bytes it has. Tables that do not come have none.
+pub struct Part {
+    pub at: usize,
+    pub length: usize,
+}
+
+pub struct Packet {
+    pub marker: u32,
+    pub time: u32,
+    pub offset: u32,
+    pub header: Header,
+    pub tables: Part,
+    pub scan: Part,
+}
+
+pub enum Reading {
+    Refused(u32),
+    Said(Packet),
+}
+
+// Whether the scan of a type has restart intervals.
+pub enum Restarts {
+    Without,
+    With,
+    OtherType,
+}
+
+// Where the tables of a Q come from.
+pub enum TableSource {
+    Made,
+    KeptOrBrought,
+    AlwaysBrought,
+    Reserved,
+}
+
+// What a packet says, for a receiver of a source.
+pub fn read(source: u32, packet: &[u8]) -> Reading
+    ensures { λ r. ⌜ r ≡ reading source (now (packet .entry)) ⌝ }
+{
+    if let Judged::Refused(number) = rtp::judge(source, packet) {
+        return Reading::Refused(number);
+    }
+    let start = rtp::headers_end(packet);
+    let end = packet.len() - rtp::padding(packet);
+    read_payload(packet, start, &packet[start..end])
+}
+
+// The same from where the RTP headers end, on what is left between them and the padding.
+fn read_payload(packet: &[u8], start: usize, payload: &[u8]) -> Reading
+    requires { ⌜ Left (now packet) start (now payload) ⌝ }
+    ensures { λ r. ⌜ r ≡ answered (judged (jpegChecks (now (payload .entry)))) (said (now (packet .entry))) ⌝ }
+{
+    if let Judged::Refused(number) = jpeg::judge(payload) {
+        return Reading::Refused(number);
+    }
+    Reading::Said(told(packet, start, payload))
+}
+
+fn told(packet: &[u8], start: usize, payload: &[u8]) -> Packet
+    requires { ⌜ Left (now packet) start (now payload) ⌝ }
+    requires { ⌜ scanAt (now payload) ≤ length (now payload) ⌝ }
+    ensures { λ r. ⌜ r ≡ said (now (packet .entry)) ⌝ }
+{
+    let tables_at = tables_at(payload);
+    let tables_length = tables_length(payload) as usize;
+    let scan_at = tables_at + tables_length;
+    Packet {
+        marker: (byte_at(packet, 1) / 128) as u32,
+        time: u32_at(packet, 4),
+        offset: u24_at(payload, 1),
+        header: jpeg::header(payload),
+        tables: Part {
+            at: start + tables_at,
+            length: tables_length,
+        },
+        scan: Part {
+            at: start + scan_at,
+            length: payload.len() - scan_at,
+        },
+    }
+}
+
+// The bytes of a part: those that the packet has there.
+pub fn bytes_of(packet: &[u8], part: Part) -> &[u8]
+    ensures { λ r. ⌜ now r ≡ partOf (now (packet .entry)) part ⌝ }
+{
+    let at = part.at;
+    let length = part.length;
+    if packet.len() < at {
+        return &packet[0..0];
+    }
+    if packet.len() - at < length {
+        return &packet[at..];
+    }
+    &packet[at..at + length]
+}
+
+// The tables in a part, filled up with 0.
+pub fn tables(packet: &[u8], part: Part) -> [u8; 128]
+    ensures { λ r. ⌜ r ≡ tablesIn (now (packet .entry)) part ⌝ }
+{
+    filled_up(bytes_of(packet, part))
+}
+
+fn filled_up(bytes: &[u8]) -> [u8; 128]
+    ensures { λ r. ⌜ r ≡ take 128 (now (bytes .entry)) ++ replicate (128 - length (now (bytes .entry))) 0 ⌝ }
+{
+    let mut filled = [0u8; 128];
+    let n = if bytes.len() < 128 { bytes.len() } else { 128 };
+    for i in 0..n {
+        filled[i] = bytes[i];
+    }
+    filled
+}
+
+pub fn restarts_of(kind: u32) -> Restarts
+    ensures { λ r. ⌜ r ≡ restartsOf kind ⌝ }
+{
+    match kind {
+        0 | 1 => Restarts::Without,
+        64 | 65 => Restarts::With,
+        _ => Restarts::OtherType,
+    }
+}
+
+pub fn table_source(q: u32) -> TableSource
+    ensures { λ r. ⌜ r ≡ tableSource q ⌝ }
+{
+    match q {
+        1..=50 | 51..=99 => TableSource::Made,
+        128..=254 => TableSource::KeptOrBrought,
+        255 => TableSource::AlwaysBrought,
+        _ => TableSource::Reserved,
+    }
+}
+
+impl Restarts {
+    pub(crate) fn are_with(self) -> bool
+        ensures { λ r. ⌜ r ≡ isWith self ⌝ }
+    {
+        match self {
+            Restarts::Without => false,
+            Restarts::With => true,
+            Restarts::OtherType => false,
+        }
+    }
+
+    pub(crate) fn are_other(self) -> bool
+        ensures { λ r. ⌜ r ≡ isOther self ⌝ }
+    {
+        match self {
+            Restarts::Without => false,
+            Restarts::With => false,
+            Restarts::OtherType => true,
+        }
+    }
+}
+
+impl TableSource {
+    pub(crate) fn is_in_band(self) -> bool
+        ensures { λ r. ⌜ r ≡ isInBand self ⌝ }
+    {
+        match self {
+            TableSource::Made => false,
+            TableSource::KeptOrBrought => true,
+            TableSource::AlwaysBrought => true,
+            TableSource::Reserved => false,
+        }
+    }
+
+    pub(crate) fn is_always_brought(self) -> bool
+        ensures { λ r. ⌜ r ≡ isAlwaysBrought self ⌝ }
+    {
+        match self {
+            TableSource::Made => false,
+            TableSource::KeptOrBrought => false,
+            TableSource::AlwaysBrought => true,
+            TableSource::Reserved => false,
+        }
+    }
+
+    pub(crate) fn is_reserved(self) -> bool
+        ensures { λ r. ⌜ r ≡ isReserved self ⌝ }
+    {
+        match self {
+            TableSource::Made => false,
+            TableSource::KeptOrBrought => false,
+            TableSource::AlwaysBrought => false,
+            TableSource::Reserved => true,
+        }
+    }
+}
