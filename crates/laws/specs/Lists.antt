@@ -1,10 +1,12 @@
 -- Laws on lists of numbers. Assumes nothing.
-use Prim.Native.Nat.{ℕ, zero, suc, _+_, _-_, _<_}
+use Prim.Native.Nat.{ℕ, zero, suc, _+_, _-_, _≤_, _<_}
 use mathlib.Core.List.{List, [], _∷_, _++_, map}
-use mathlib.Core.Path.{_≡_, refl, ap}
+use mathlib.Core.Path.{_≡_, refl, sym, ap}
 use native.Mathlib.Nat.{not-suc-le-zero, le-of-suc-le-suc, sub-zero, zero-sub, suc-sub-suc}
 use native.Mathlib.Numerals.{add-one}
+use native.Mathlib.Omega.{arith}
 use lib.ListN.{length, getD, take, drop, set, replicate, length-replicate}
+use lib.Seq.{take-nil, take-take, drop-drop}
 
 pub map-at : (f : ℕ → ℕ) (l : List ℕ) (i : ℕ) → i < length l → getD (map f l) i 0 ≡ f (getD l i 0)
 map-at f [] i h = absurd (not-suc-le-zero h)
@@ -29,3 +31,13 @@ drop-replicate (suc n) (suc m) a = rw (suc-sub-suc m n) (drop-replicate n m a)
 -- The same into m places that hold one number a at first.
 pub fill-same : (new : List ℕ) (m a i : ℕ) → i < length new → i < m → set (take i new ++ replicate (m - i) a) i (getD new i 0) ≡ take (i + 1) new ++ replicate (m - (i + 1)) a
 fill-same new m a i h g = rw (← drop-replicate i m a, ← drop-replicate (i + 1) m a) (fill-more new (replicate m a) i h (rw (length-replicate m a) g))
+
+-- A part of a part.
+pub drop-take : (t m : ℕ) (l : List ℕ) → drop t (take m l) ≡ take (m - t) (drop t l)
+drop-take zero m l = rw (sub-zero m)
+drop-take (suc t) zero l = rw (zero-sub (suc t))
+drop-take (suc t) (suc m) [] = sym (take-nil (suc m - suc t))
+drop-take (suc t) (suc m) (x ∷ l) = rw (suc-sub-suc m t) (drop-take t m l)
+
+pub part-of-part : (n t m h : ℕ) (l : List ℕ) → t + n ≤ m → take n (drop t (take m (drop h l))) ≡ take n (drop (h + t) l)
+part-of-part n t m h l fits = rw (drop-take t m (drop h l), take-take n (m - t) (drop t (drop h l)) (omega arith), drop-drop t h l)

@@ -1,9 +1,17 @@
 -- Going by cases on tests that are joined. Assumes nothing.
 use Prim.Native.Nat.{ℕ}
 use mathlib.Core.Bool.{Bool, true, false, not, _&&_, _||_}
-use mathlib.Core.Path.{_≡_, refl}
+use mathlib.Core.Path.{_≡_, refl, sym, subst, _∙_}
 use borrow.Author.Tests.{eq-eqb, ne-eqb, eqb-true, not-false}
-use lib.Dec.{eqb}
+use lib.Dec.{T, eqb}
+
+-- by cases on a test, with what it answered
+pub split : {P : Type 0} (t : Bool) → (t ≡ true → P) → (t ≡ false → P) → P
+split true y n = y refl
+split false y n = n refl
+
+pub never-both : {t : Bool} → t ≡ true → t ≡ false → ⊥
+never-both e f = subst T (sym e ∙ f) tt
 
 pub and-true : (a b : Bool) → (a && b) ≡ true → (a ≡ true) × (b ≡ true)
 and-true true b h = (refl, h)

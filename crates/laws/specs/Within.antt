@@ -9,6 +9,10 @@ use Rattle.laws.specs.Truth.{and-true, and-false}
 unfoldable pub within : ℕ → ℕ → ℕ → Bool
 within low high n = leb low n && leb n high
 
+-- the same, as what has to hold
+abbrev pub Between : ℕ → ℕ → ℕ → Type 0
+Between low high n = (low ≤ n) × (n ≤ high)
+
 -- ---- laws
 
 module _ (low high n : ℕ) where
@@ -24,6 +28,6 @@ module _ (low high n : ℕ) where
   unfolding within
   is-over h = rw (lt-leb n high h) (and-false (leb low n))
 
-  pub within-true : within low high n ≡ true → (low ≤ n) × (n ≤ high)
+  pub within-true : within low high n ≡ true → Between low high n
   unfolding within
   within-true e = let t = and-true (leb low n) (leb n high) e in (leb-true low n (t .0), leb-true n high (t .1))

@@ -57,6 +57,12 @@ passed-first [] b e = refl
 passed-first ((m when true) ∷ a) b e = absurd (never-refused (sym e))
 passed-first ((m when false) ∷ a) b e = passed-first a b e
 
+pub both-passed : (a b : List Check) → judged (a ++ b) ≡ Passed → (judged a ≡ Passed) × (judged b ≡ Passed)
+unfolding judged
+both-passed [] b e = (refl, e)
+both-passed ((m when true) ∷ a) b e = absurd (never-refused (sym e))
+both-passed ((m when false) ∷ a) b e = both-passed a b e
+
 -- where all pass, none fails
 abbrev pub Holds : Check → Type 0
 Holds (n when b) = b ≡ false

@@ -1,10 +1,11 @@
 -- Numbers in a list of bytes, most significant byte first. Assumes nothing.
-use Prim.Native.Nat.{ℕ, zero, suc, _+_, _*_, _≤_, _<_}
-use mathlib.Core.List.{List}
+use Prim.Native.Nat.{ℕ, zero, suc, _+_, _*_, _^_, _≤_, _<_}
+use mathlib.Core.List.{List, [], _∷_}
 use mathlib.Core.Path.{_≡_, refl}
-use native.Mathlib.Nat.{add-zero, add-assoc}
+use native.Mathlib.Nat.{add-zero, add-assoc, pow-suc}
 use native.Mathlib.Omega.{arith}
 use lib.ListN.{length, getD, List·getD-eq-default}
+use Rattle.laws.specs.Each.{Each}
 
 -- the byte at a place, and 0 past the end: a length that must hold is a check of its own
 abbrev pub byte : List ℕ → ℕ → ℕ
@@ -32,3 +33,17 @@ module _ (l : List ℕ) (at : ℕ) where
 pub field-4 : (l : List ℕ) (at : ℕ) → field l at 4 ≡ field l at 2 * 65536 + field l (at + 2) 2
 unfolding field
 field-4 l at = rw (add-zero at, add-zero (at + 2), add-assoc at 2 1) (omega arith)
+
+-- what the bytes of a slice are, and what numbers they make
+abbrev pub Bytes : List ℕ → Type 0
+Bytes l = Each (λ (v : ℕ). v < 256) l
+
+pub byte-small : (l : List ℕ) (at : ℕ) → Bytes l → byte l at < 256
+byte-small [] at a = omega arith
+byte-small (x ∷ l) zero a = a .0
+byte-small (x ∷ l) (suc at) a = byte-small l at (a .1)
+
+pub field-small : (l : List ℕ) (at n : ℕ) → Bytes l → field l at n < 256 ^ n
+unfolding field
+field-small l at zero a = omega arith
+field-small l at (suc n) a = omega (arith, pow-suc 256 n, field-small l at n a, byte-small l (at + n) a)

@@ -7,3 +7,4 @@ pub mod Restart
 pub mod Tables
 pub mod Reading
 pub mod Passed
+pub mod ReadPacket

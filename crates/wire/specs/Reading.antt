@@ -95,6 +95,9 @@ reading source p = answered (judged (checks source p)) (said p)
 abbrev pub partOf : List ℕ → Part → List ℕ
 partOf p r = take (r .length) (drop (r .at) p)
 
--- The tables in a part of a packet, always 128 bytes: filled up with 0.
-unfoldable pub tablesIn : List ℕ → Part → List ℕ
-tablesIn p r = take 128 (partOf p r) ++ replicate (128 - length (partOf p r)) 0
+-- The scan data of a packet, and the tables that it brings, always 128 bytes: filled up with 0.
+abbrev pub scanIn : List ℕ → Packet → List ℕ
+scanIn p s = partOf p (s .scan)
+
+unfoldable pub tablesIn : List ℕ → Packet → List ℕ
+tablesIn p s = take 128 (partOf p (s .tables)) ++ replicate (128 - length (partOf p (s .tables))) 0

@@ -2,6 +2,7 @@
 use Prim.Native.Nat.{ℕ, _+_, _≤_}
 use mathlib.Core.Bool.{Bool, true, false, cond}
 use mathlib.Core.List.{List}
+use mathlib.Core.Path.{_≡_}
 use native.Mathlib.Omega.{arith}
 use Rattle.wire.specs.Field.{field}
 use Rattle.wire.specs.Kind.{restartsOf, isWith}
@@ -30,3 +31,12 @@ restart-end-small b = go (hasRestart b)
     go : (t : Bool) → mainEnd + cond t 4 0 ≤ 12
     go true = omega arith
     go false = omega arith
+
+module _ (b : List ℕ) where
+  pub interval-read : hasRestart b ≡ true → interval b ≡ field b mainEnd 2
+  unfolding interval
+  interval-read e = rw e
+
+  pub interval-none : hasRestart b ≡ false → interval b ≡ 0
+  unfolding interval
+  interval-none e = rw e

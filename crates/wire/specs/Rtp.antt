@@ -1,14 +1,17 @@
 -- The RTP headers of a packet, its padding, and what is left for the payload: RFC 3550 sections 5.1 and 5.3.1. Assumes nothing.
-use Prim.Native.Nat.{ℕ, _+_, _-_, _*_, _/_, _%_, _≤_}
+use Prim.Native.Nat.{ℕ, _+_, _-_, _*_, _/_, _%_, _≤_, _<_}
 use mathlib.Core.Bool.{Bool, true, false, cond, _&&_, _||_}
 use mathlib.Core.List.{List}
-use mathlib.Core.Path.{_≡_}
+use mathlib.Core.Path.{_≡_, refl}
 use native.Mathlib.Omega.{arith}
 use borrow.Author.Tests.{ltb-false}
 use lib.Dec.{ltb, eqb}
-use lib.ListN.{length, take, drop}
+use lib.ListN.{length, take, drop, length-take, length-drop}
+use lib.Seq.{drop-drop}
+use Rattle.laws.specs.Each.{each-take, each-drop}
+use Rattle.laws.specs.Lists.{drop-take, part-of-part}
 use Rattle.laws.specs.Truth.{or-none}
-use Rattle.wire.specs.Field.{byte, field}
+use Rattle.wire.specs.Field.{Bytes, byte, field, byte-small}
 
 -- The fixed header.
 --
@@ -89,3 +92,29 @@ module _ (p : List ℕ) where
       go : (t : Bool) → (t && (ltb (cond t (byte p (length p - 1)) 0) 1 || ltb (length p - headersEnd p) (cond t (byte p (length p - 1)) 0))) ≡ false → cond t (byte p (length p - 1)) 0 ≤ length p - headersEnd p
       go true h = ltb-false (length p - headersEnd p) (byte p (length p - 1)) (or-none (ltb (byte p (length p - 1)) 1) (ltb (length p - headersEnd p) (byte p (length p - 1))) h .1)
       go false h = omega arith
+
+  -- in a packet whose headers and padding fit into it
+  module _ (headers : headersEnd p ≤ length p) (padding : dropped p ≤ length p - headersEnd p) where
+    pub length-payload : length (payload p) ≡ payloadLength p
+    unfolding payload payloadLength
+    length-payload = simp (length-take, length-drop) (omega arith)
+
+    pub payload-inside : headersEnd p + payloadLength p ≤ length p
+    unfolding payloadLength
+    payload-inside = omega arith
+
+  -- a part of what is left, and all of it from a place on, as parts of the packet
+  pub payload-part : (n t : ℕ) → t + n ≤ payloadLength p → take n (drop t (payload p)) ≡ take n (drop (headersEnd p + t) p)
+  unfolding payload
+  payload-part n t fits = part-of-part n t (payloadLength p) (headersEnd p) p fits
+
+  pub payload-from : (t : ℕ) → drop t (payload p) ≡ take (payloadLength p - t) (drop (headersEnd p + t) p)
+  unfolding payload
+  payload-from t = rw (drop-take t (payloadLength p) (drop (headersEnd p) p), drop-drop t (headersEnd p) p)
+
+  pub payload-bytes : Bytes p → Bytes (payload p)
+  unfolding payload
+  payload-bytes a = each-take (λ (v : ℕ). v < 256) (payloadLength p) (drop (headersEnd p) p) (each-drop (λ (v : ℕ). v < 256) (headersEnd p) p a)
+
+  pub marker-small : Bytes p → fixed p .marker ≤ 1
+  marker-small a = omega (arith, byte-small p 1 a)

@@ -62,3 +62,9 @@ module _ (q : ℕ) where
   pub always-brought-255 : q ≡ 255 → tableSource q ≡ AlwaysBrought
   unfolding tableSource
   always-brought-255 e = rw (is-over 1 99 q (omega arith), is-over 128 254 q (omega arith), eq-eqb q 255 e)
+
+pub always-in-band : (s : TableSource) → isAlwaysBrought s ≡ true → isInBand s ≡ true
+always-in-band Made e = e
+always-in-band KeptOrBrought e = refl
+always-in-band AlwaysBrought e = refl
+always-in-band Reserved e = e

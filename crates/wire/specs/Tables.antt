@@ -2,17 +2,18 @@
 use Prim.Native.Nat.{ℕ, _+_, _%_, _≤_}
 use mathlib.Core.Bool.{Bool, true, false, cond, not, _&&_, _||_}
 use mathlib.Core.List.{List}
-use mathlib.Core.Path.{_≡_, refl}
+use mathlib.Core.Logic.{_⊎_, inl, inr, ⊎-elim}
+use mathlib.Core.Path.{_≡_, refl, sym, _∙_}
 use native.Mathlib.Omega.{arith}
-use borrow.Author.Tests.{eq-eqb, ne-eqb}
+use borrow.Author.Tests.{eq-eqb, ne-eqb, eqb-true, eqb-false}
 use lib.Dec.{eqb}
 use lib.ListN.{take, drop}
 use Rattle.laws.specs.Any.{any}
-use Rattle.laws.specs.Truth.{and-false, and-truth, or-false}
+use Rattle.laws.specs.Truth.{split, never-both, and-false, and-truth, or-false}
 use Rattle.wire.specs.Field.{byte, field}
 use Rattle.wire.specs.Main.{main}
 use Rattle.wire.specs.Restart.{restartEnd, restart-end-small}
-use Rattle.wire.specs.TableSource.{tableSource, isInBand, isAlwaysBrought}
+use Rattle.wire.specs.TableSource.{tableSource, isInBand, isAlwaysBrought, always-in-band}
 
 --      0                   1                   2                   3
 --      0 1 2 3 4 5 6 7 8 9 0 1 2 3 4 5 6 7 8 9 0 1 2 3 4 5 6 7 8 9 0 1
@@ -88,3 +89,43 @@ module _ (b : List ℕ) where
       pub rule-other : (tablesLength b ≡ 0 → ⊥) → (tablesLength b ≡ 128 → ⊥) → tableRuleBroken b ≡ true
       unfolding tableRuleBroken
       rule-other h g = rw (header, eq-eqb (precision b) 0 bytes, ne-eqb (tablesLength b) 0 h, ne-eqb (tablesLength b) 128 g)
+
+  pub length-without : hasTableHeader b ≡ false → tablesLength b ≡ 0
+  unfolding tablesLength
+  length-without e = rw e
+
+  -- what is known of tables that keep the rule: none come, or 128 bytes, none of them 0
+  pub record Come : Type 0 where
+    pub header : hasTableHeader b ≡ true
+    pub long : tablesLength b ≡ 128
+    pub no-zero : any isZero (tables b) ≡ false
+
+  pub none-or-come : tableRuleBroken b ≡ false → (tablesLength b ≡ 0) ⊎ Come
+  none-or-come kept =
+      split (hasTableHeader b)
+      (λ header. split (eqb (precision b) 0)
+      (λ narrow. by-length header (eqb-true (precision b) 0 narrow))
+      (λ wide. absurd (never-both (rule-wide header (eqb-false (precision b) 0 wide)) kept)))
+      (λ bare. inl (length-without bare))
+    where
+      by-length : hasTableHeader b ≡ true → precision b ≡ 0 → (tablesLength b ≡ 0) ⊎ Come
+      by-length header narrow =
+          split (eqb (tablesLength b) 0)
+          (λ e. inl (eqb-true (tablesLength b) 0 e))
+          (λ some. split (eqb (tablesLength b) 128)
+          (λ full. inr (record { header = header; long = eqb-true (tablesLength b) 128 full; no-zero = sym (rule-full header narrow (eqb-true (tablesLength b) 128 full)) ∙ kept }))
+          (λ other. absurd (never-both (rule-other header narrow (eqb-false (tablesLength b) 0 some) (eqb-false (tablesLength b) 128 other)) kept)))
+
+  -- and they come with the first packet of each picture where they are always brought
+  pub always-come : tableRuleBroken b ≡ false → main b .offset ≡ 0 → alwaysBrought b ≡ true → Come
+  unfolding hasTableHeader
+  always-come kept first always = ⊎-elim (λ none. absurd (never none)) (λ come. come) (none-or-come kept)
+    where
+      header : hasTableHeader b ≡ true
+      header = rw (eq-eqb (main b .offset) 0 first) (always-in-band (tableSource (main b .q)) always)
+
+      never : tablesLength b ≡ 0 → ⊥
+      never none =
+          split (eqb (precision b) 0)
+          (λ narrow. never-both (rule-none header (eqb-true (precision b) 0 narrow) none ∙ always) kept)
+          (λ wide. never-both (rule-wide header (eqb-false (precision b) 0 wide)) kept)

@@ -11,7 +11,7 @@ ghost use mathlib.Core.Path.{_≡_};
 ghost use lib.ListN.{length, take, replicate};
 ghost use Rattle.wire.specs.Kind.{restartsOf, isWith, isOther};
 ghost use Rattle.replies.specs.Checks.{judged};
-ghost use Rattle.wire.specs.Reading.{reading, answered, jpegChecks, said, partOf, tablesIn};
+ghost use Rattle.wire.specs.Reading.{reading, answered, jpegChecks, said, partOf, scanIn, tablesIn};
 ghost use Rattle.wire.specs.Rtp.{Left};
 ghost use Rattle.wire.specs.Tables.{scanAt};
 ghost use Rattle.wire.specs.TableSource.{tableSource, isInBand, isAlwaysBrought, isReserved};
@@ -113,8 +113,24 @@ fn told(packet: &[u8], start: usize, payload: &[u8]) -> Packet
     }
 }
 
+// The scan data of a packet, which is a part of the packet itself.
+pub fn scan(packet: &[u8], said: Packet) -> &[u8]
+    ensures { λ r. ⌜ now r ≡ scanIn (now (packet .entry)) said ⌝ }
+{
+    let part = said.scan;
+    bytes_of(packet, part)
+}
+
+// The tables that a packet brings, filled up with 0.
+pub fn tables(packet: &[u8], said: Packet) -> [u8; 128]
+    ensures { λ r. ⌜ r ≡ tablesIn (now (packet .entry)) said ⌝ }
+{
+    let part = said.tables;
+    filled_up(bytes_of(packet, part))
+}
+
 // The bytes of a part: those that the packet has there.
-pub fn bytes_of(packet: &[u8], part: Part) -> &[u8]
+fn bytes_of(packet: &[u8], part: Part) -> &[u8]
     ensures { λ r. ⌜ now r ≡ partOf (now (packet .entry)) part ⌝ }
 {
     let at = part.at;
@@ -126,13 +142,6 @@ pub fn bytes_of(packet: &[u8], part: Part) -> &[u8]
         return &packet[at..];
     }
     &packet[at..at + length]
-}
-
-// The tables in a part, filled up with 0.
-pub fn tables(packet: &[u8], part: Part) -> [u8; 128]
-    ensures { λ r. ⌜ r ≡ tablesIn (now (packet .entry)) part ⌝ }
-{
-    filled_up(bytes_of(packet, part))
 }
 
 fn filled_up(bytes: &[u8]) -> [u8; 128]

@@ -1,0 +1,166 @@
+-- What is known of a packet that is read. Assumes nothing.
+use Prim.Native.Nat.{ℕ, _+_, _-_, _^_, _≤_, _<_}
+use mathlib.Core.Bool.{Bool, true, false}
+use mathlib.Core.List.{List, [], _++_, append-nil}
+use mathlib.Core.Logic.{_⊎_, inl, inr, ⊎-elim}
+use mathlib.Core.Path.{_≡_, refl, sym, ap, _∙_}
+use native.Mathlib.Omega.{arith}
+use borrow.Author.Tests.{eqb-true, eqb-false, eq-eqb}
+use lib.Dec.{eqb}
+use lib.ListN.{length, take, drop, replicate, length-take, length-drop}
+use lib.Seq.{take-all}
+use Rattle.laws.specs.Each.{Each, each-take, each-drop, each-weaken, each-both}
+use Rattle.laws.specs.Any.{any-none}
+use Rattle.laws.specs.Truth.{split, never-both, and-true}
+use Rattle.laws.specs.Within.{Between}
+use Rattle.replies.specs.Checks.{judged, both-passed}
+use Rattle.replies.specs.declared.Judged.{Judged}
+use Rattle.replies.specs.declared.Judged.the-variants.{Passed, Refused}
+use Rattle.wire.specs.Field.{Bytes, field, byte-small, field-small}
+use Rattle.wire.specs.Kind.{restartsOf, isOther, isWith}
+use Rattle.wire.specs.Main.{main, mainEnd}
+use Rattle.wire.specs.Passed.{RtpPassed, JpegPassed, rtp-passed, jpeg-passed}
+use Rattle.wire.specs.Reading.{longest, rtpChecks, jpegChecks, checks, headerOf, said, answered, reading, partOf, scanIn, tablesIn}
+use Rattle.wire.specs.Restart.{hasRestart, interval, restartEnd, interval-read, interval-none}
+use Rattle.wire.specs.Rtp.{fixed, headersEnd, payload, payloadLength, length-payload, payload-part, payload-from, payload-inside, payload-bytes, marker-small}
+use Rattle.wire.specs.TableSource.{tableSource, isReserved, isInBand, isAlwaysBrought}
+use Rattle.wire.specs.Tables.{hasTableHeader, tablesAt, tablesLength, scanAt, tables, isZero, Come, none-or-come, always-come}
+use Rattle.wire.specs.declared.Header.{Header}
+use Rattle.wire.specs.declared.Packet.{Packet}
+use Rattle.wire.specs.declared.Reading.{Reading}
+use Rattle.wire.specs.declared.Reading.the-variants as Answer
+
+-- Header fields such as the reader can give.
+pub record Lawful (h : Header) : Type 0 where
+  pub kind : isOther (restartsOf (h .kind)) ≡ false
+  pub q : isReserved (tableSource (h .q)) ≡ false
+  pub width : Between 1 255 (h .width)
+  pub height : Between 1 255 (h .height)
+  pub interval : isWith (restartsOf (h .kind)) ≡ true → Between 1 65535 (h .interval)
+  pub no-interval : isWith (restartsOf (h .kind)) ≡ false → h .interval ≡ 0
+
+-- Tables that a packet brings: it is the first of its picture, and they are 128 bytes in it, none of them 0.
+pub record Brought (p : List ℕ) (s : Packet) : Type 0 where
+  pub first : s .offset ≡ 0
+  pub in-band : isInBand (tableSource (s .header .q)) ≡ true
+  pub inside : s .tables .at + 128 ≤ length p
+  pub bytes : tablesIn p s ≡ take 128 (drop (s .tables .at) p)
+  pub entries : Each (Between 1 255) (tablesIn p s)
+
+pub record Readable (p : List ℕ) (s : Packet) : Type 0 where
+  pub short : length p ≤ longest
+  pub marker : s .marker ≤ 1
+  pub time : s .time < 2 ^ 32
+  pub offset : s .offset < 2 ^ 24
+  pub header : Lawful (s .header)
+  pub tables : (s .tables .length ≡ 0) ⊎ Brought p s
+  pub always : s .offset ≡ 0 → isAlwaysBrought (tableSource (s .header .q)) ≡ true → Brought p s
+  pub scan : 1 ≤ s .scan .length
+  pub inside : s .scan .at + s .scan .length ≤ length p
+
+-- A packet that is read has passed every check, and says what the definition says.
+pub record Passes (source : ℕ) (p : List ℕ) (s : Packet) : Type 0 where
+  pub rtp : RtpPassed source p
+  pub jpeg : JpegPassed (payload p)
+  pub says : s ≡ said p
+
+passed : (j : Judged) {s t : Packet} → answered j t ≡ Answer.Said s → (j ≡ Passed) × (s ≡ t)
+passed Passed e = (refl, cc)
+passed (Refused n) e = absurd (let z : _≡_ {A = ℕ} 0 1 = cc in omega arith)
+
+pub read-passes : (source : ℕ) (p : List ℕ) (s : Packet) → reading source p ≡ Answer.Said s → Passes source p s
+unfolding reading
+read-passes source p s e =
+    let t = passed (judged (checks source p)) e in
+    let both = both-passed (rtpChecks source p) (jpegChecks (payload p)) (t .0) in
+    record { rtp = rtp-passed source p (both .0); jpeg = jpeg-passed (payload p) (both .1); says = t .1 }
+
+module _ (b : List ℕ) (bytes : Bytes b) (jpeg : JpegPassed b) where
+  lawful : Lawful (headerOf b)
+  lawful = record {
+    kind = jpeg .kind;
+    q = jpeg .q;
+    width = (let h = jpeg .width in omega arith, omega (arith, byte-small b 6 bytes));
+    height = (let h = jpeg .height in omega arith, omega (arith, byte-small b 7 bytes));
+    interval = λ e. let some = eqb-false (interval b) 0 (rw e at (jpeg .interval)) in (omega arith, omega (arith, interval-read b e, field-small b mainEnd 2 bytes));
+    no-interval = λ e. interval-none b e;
+  }
+
+full : (l : List ℕ) → length l ≡ 128 → take 128 l ++ replicate (128 - length l) 0 ≡ l
+full l e = rw (e, take-all 128 l (omega arith)) (append-nil l)
+
+module _ {source : ℕ} (p : List ℕ) (bytes : Bytes p) (rtp : RtpPassed source p) (jpeg : JpegPassed (payload p)) where
+  long : length (payload p) ≡ payloadLength p
+  long = length-payload p (rtp .headers) (rtp .padding)
+
+  -- the scan data and the tables lie in the packet as they lie in what is left of it
+  pub scan-there : scanIn p (said p) ≡ drop (scanAt (payload p)) (payload p)
+  unfolding said
+  scan-there = rw (long, payload-from p (scanAt (payload p)))
+
+  tables-there : partOf p (said p .tables) ≡ tables (payload p)
+  unfolding said scanAt
+  tables-there = sym (payload-part p (tablesLength (payload p)) (tablesAt (payload p)) (omega (arith, long, jpeg .scan)))
+
+  module _ (come : Come (payload p)) where
+    tables-inside : said p .tables .at + 128 ≤ length p
+    unfolding said scanAt
+    tables-inside = omega (arith, long, jpeg .scan, come .long, payload-inside p (rtp .headers) (rtp .padding))
+
+    tables-long : length (tables (payload p)) ≡ 128
+    unfolding scanAt
+    tables-long = simp (length-take, length-drop) (omega (arith, jpeg .scan, come .long))
+
+    tables-are : tablesIn p (said p) ≡ tables (payload p)
+    unfolding tablesIn
+    tables-are = rw tables-there (full (tables (payload p)) tables-long)
+
+    entries : Each (Between 1 255) (tables (payload p))
+    entries =
+        each-weaken (λ (v : ℕ). (v < 256) × (isZero v ≡ false)) (Between 1 255)
+        (λ v h. let some = eqb-false v 0 (h .1) in (omega arith, omega arith))
+        (tables (payload p))
+        (each-both (λ (v : ℕ). v < 256) (λ (v : ℕ). isZero v ≡ false) (tables (payload p)) in-bytes (any-none isZero (tables (payload p)) (come .no-zero)))
+      where
+        in-bytes : Bytes (tables (payload p))
+        in-bytes = each-take (λ (v : ℕ). v < 256) (tablesLength (payload p)) (drop (tablesAt (payload p)) (payload p)) (each-drop (λ (v : ℕ). v < 256) (tablesAt (payload p)) (payload p) (payload-bytes p bytes))
+
+    brought : Brought p (said p)
+    unfolding said hasTableHeader
+    brought =
+        let header = and-true (eqb (main (payload p) .offset) 0) (isInBand (tableSource (main (payload p) .q))) (come .header) in
+        record {
+          first = eqb-true (main (payload p) .offset) 0 (header .0);
+          in-band = header .1;
+          inside = tables-inside;
+          bytes = tables-are ∙ sym tables-there ∙ ap (λ (n : ℕ). take n (drop (said p .tables .at) p)) (come .long);
+          entries = rw tables-are entries;
+        }
+
+  none-or-brought : (said p .tables .length ≡ 0) ⊎ Brought p (said p)
+  unfolding said
+  none-or-brought = ⊎-elim (λ none. inl none) (λ come. inr (brought come)) (none-or-come (payload p) (jpeg .tables))
+
+  always-brought : said p .offset ≡ 0 → isAlwaysBrought (tableSource (said p .header .q)) ≡ true → Brought p (said p)
+  unfolding said
+  always-brought first always = brought (always-come (payload p) (jpeg .tables) first always)
+
+  readable : Readable p (said p)
+  unfolding said
+  readable = record {
+    short = rtp .short;
+    marker = marker-small p bytes;
+    time = omega (arith, field-small p 4 4 bytes);
+    offset = omega (arith, field-small (payload p) 1 3 (payload-bytes p bytes));
+    header = lawful (payload p) (payload-bytes p bytes) jpeg;
+    tables = none-or-brought;
+    always = always-brought;
+    scan = omega (arith, jpeg .scan);
+    inside = omega (arith, long, jpeg .scan, payload-inside p (rtp .headers) (rtp .padding));
+  }
+
+-- The law for whoever reads packets.
+pub read-packet : (source : ℕ) (p : List ℕ) (s : Packet) → Bytes p → reading source p ≡ Answer.Said s → Readable p s
+read-packet source p s bytes e =
+    let t = read-passes source p s e in
+    rw (t .says) (readable p bytes (t .rtp) (t .jpeg))
