@@ -1,5 +1,7 @@
 // Runs the cases on standard input, a line each, and writes each case with what it gives.
 // A line that is empty or begins with # is copied, and one that is no case gives a question mark.
+mod hex;
+mod packet_case;
 mod tables_case;
 mod text;
 
@@ -29,9 +31,14 @@ fn answer(line: &[u8]) {
     io::write_all(STDOUT_FILENO, line);
     if 0 < line.len() && line[0] != b'#' {
         io::write_all(STDOUT_FILENO, b" ->");
-        if !tables_case::run(line) {
+        if !is_case(line) {
             io::write_all(STDOUT_FILENO, b" ?");
         }
     }
     io::write_all(STDOUT_FILENO, b"\n");
+}
+
+// Whether the line is a case, which is then run.
+fn is_case(line: &[u8]) -> bool {
+    tables_case::run(line) || packet_case::run(line)
 }

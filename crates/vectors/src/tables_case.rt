@@ -1,6 +1,7 @@
 // A case of table making, `tables Q LENGTH FROM COUNT`: the reply, the length, and COUNT bytes from place FROM of an
 // output of LENGTH bytes, at most 4,096, each 7 at first.
 use crate::text::Number;
+use crate::text::begins;
 use crate::text::next_number;
 use crate::text::write_bytes;
 use crate::text::write_number;
@@ -10,10 +11,7 @@ const WORD: usize = 6;
 
 // Whether the line is such a case.
 pub(crate) fn run(line: &[u8]) -> bool {
-    if line.len() < WORD {
-        return false;
-    }
-    if !check::same(&line[0..WORD], b"tables") {
+    if !begins(line, b"tables") {
         return false;
     }
     let Number::Of(q, after_q) = next_number(line, WORD) else {
@@ -50,8 +48,8 @@ fn show_part(q: u32, out: &mut [u8], from: usize, count: usize) -> bool {
         return false;
     }
     let w = tables::make_tables(q, out);
-    write_number(w.reply);
-    write_number(w.length);
+    write_number(w.reply as u64);
+    write_number(w.length as u64);
     write_bytes(&out[from..from + count]);
     true
 }

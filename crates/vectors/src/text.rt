@@ -46,6 +46,14 @@ fn read_byte() -> Byte {
     Byte::Of(byte[0])
 }
 
+pub(crate) fn begins(line: &[u8], word: &[u8]) -> bool {
+    if line.len() < word.len() {
+        return false;
+    }
+    let n = word.len();
+    check::same(&line[0..n], word)
+}
+
 pub(crate) enum Number {
     // a number of 32 bits, and the place behind it
     Of(u32, usize),
@@ -53,7 +61,7 @@ pub(crate) enum Number {
 }
 
 // The decimal number that begins at a place of the line.
-fn number_at(line: &[u8], at: usize) -> Number {
+pub(crate) fn number_at(line: &[u8], at: usize) -> Number {
     let mut value: u64 = 0;
     let mut i = at;
     while i < line.len() {
@@ -95,13 +103,13 @@ pub(crate) fn next_number(line: &[u8], at: usize) -> Number {
     }
 }
 
-pub(crate) fn write_number(n: u32) {
+pub(crate) fn write_number(n: u64) {
     io::write_all(STDOUT_FILENO, b" ");
-    io::print_decimal(STDOUT_FILENO, n as u64);
+    io::print_decimal(STDOUT_FILENO, n);
 }
 
 pub(crate) fn write_bytes(bytes: &[u8]) {
     for i in 0..bytes.len() {
-        write_number(bytes[i] as u32);
+        write_number(bytes[i] as u64);
     }
 }
