@@ -5,14 +5,41 @@ use mathlib.Core.Path.{_≡_, sym, _∙_}
 use Rattle.replies.specs.Output.{refused, succeeded, writes-determined}
 use Rattle.replies.specs.declared.Written.{Written}
 use Rattle.tables.specs.MakeTables.{MakesTables}
+use Rattle.wire.specs.Kind.{restartsOf}
+use Rattle.wire.specs.Reading.{reading, scanIn, tablesIn}
+use Rattle.wire.specs.TableSource.{tableSource}
+use Rattle.wire.specs.declared.Packet.{Packet}
+use Rattle.wire.specs.declared.Reading.{Reading}
+use Rattle.wire.specs.declared.Restarts.{Restarts}
+use Rattle.wire.specs.declared.TableSource.{TableSource}
+
+-- what equals one definition is one
+only : {A : Type 0} {x y d : A} → x ≡ d → y ≡ d → x ≡ y
+only a b = a ∙ sym b
 
 -- `replies::Written::refusal` and `replies::Written::success`
 pub refusal : (n : ℕ) (w w′ : Written) → w ≡ refused n → w′ ≡ refused n → w ≡ w′
-refusal n w w′ a b = a ∙ sym b
+refusal n w w′ a b = only a b
 
 pub success : (n : ℕ) (w w′ : Written) → w ≡ succeeded n → w′ ≡ succeeded n → w ≡ w′
-success n w w′ a b = a ∙ sym b
+success n w w′ a b = only a b
 
 -- `tables::make_tables`, and `lj_make_tables`, which has the same contract
 pub make-tables : (q : ℕ) (before : List ℕ) (w w′ : Written) (after after′ : List ℕ) → MakesTables q before w after → MakesTables q before w′ after′ → (w ≡ w′) × (after ≡ after′)
 make-tables q before w w′ after after′ a b = writes-determined a b
+
+-- `wire::read`; `wire::scan` and `wire::tables`, by the bytes that they hand out; `wire::restarts_of` and `wire::table_source`
+pub read : (source : ℕ) (packet : List ℕ) (r r′ : Reading) → r ≡ reading source packet → r′ ≡ reading source packet → r ≡ r′
+read source packet r r′ a b = only a b
+
+pub scan : (packet : List ℕ) (said : Packet) (l l′ : List ℕ) → l ≡ scanIn packet said → l′ ≡ scanIn packet said → l ≡ l′
+scan packet said l l′ a b = only a b
+
+pub tables : (packet : List ℕ) (said : Packet) (l l′ : List ℕ) → l ≡ tablesIn packet said → l′ ≡ tablesIn packet said → l ≡ l′
+tables packet said l l′ a b = only a b
+
+pub restarts-of : (kind : ℕ) (r r′ : Restarts) → r ≡ restartsOf kind → r′ ≡ restartsOf kind → r ≡ r′
+restarts-of kind r r′ a b = only a b
+
+pub table-source : (q : ℕ) (s s′ : TableSource) → s ≡ tableSource q → s′ ≡ tableSource q → s ≡ s′
+table-source q s s′ a b = only a b

@@ -1,5 +1,5 @@
 -- The quantiser tables of a Q: T.81 tables K.1 and K.2, scaled as RFC 2435 section 4.2 says. Assumes nothing.
-use Prim.Native.Nat.{ℕ, _+_, _-_, _*_, _/_, _%_, _≤_, _<_, min, max}
+use Prim.Native.Nat.{ℕ, _+_, _-_, _*_, _/_, _%_, min, max}
 use mathlib.Core.Bool.{cond}
 use mathlib.Core.List.{List, [], _∷_, _++_, map}
 use mathlib.Core.Path.{_≡_, refl, _∙_}
@@ -7,6 +7,7 @@ use native.Mathlib.Omega.{arith}
 use lib.Dec.{leb}
 use lib.ListN.{length, getD, length-append, length-map}
 use Rattle.laws.specs.Each.{Each, each-append, each-map}
+use Rattle.laws.specs.Within.{Between}
 
 -- T.81 table K.1, luma: the entry at a row and a column, each 0 to 7
 unfoldable pub lumaAt : ℕ → ℕ → ℕ
@@ -71,25 +72,21 @@ tablesOf q = scaled (scale q)
 
 -- ---- laws
 
--- a byte that is not 0
-abbrev pub InRange : ℕ → Type 0
-InRange v = (1 ≤ v) × (v ≤ 255)
-
 pub length-in-zigzag : (entry : ℕ → ℕ → ℕ) → length (inZigzag entry) ≡ 64
 unfolding inZigzag zigzag
 length-in-zigzag entry = refl
 
 module _ (s : ℕ) where
-  pub made-in-range : (v : ℕ) → InRange (made s v)
+  pub made-in-range : (v : ℕ) → Between 1 255 (made s v)
   unfolding made
   made-in-range v = (omega arith, omega arith)
 
-  pub scaled-in-range : Each InRange (scaled s)
+  pub scaled-in-range : Each (Between 1 255) (scaled s)
   unfolding scaled
   scaled-in-range =
-      each-append InRange (map (made s) (inZigzag lumaAt)) (map (made s) (inZigzag chromaAt))
-      (each-map InRange (made s) made-in-range (inZigzag lumaAt))
-      (each-map InRange (made s) made-in-range (inZigzag chromaAt))
+      each-append (Between 1 255) (map (made s) (inZigzag lumaAt)) (map (made s) (inZigzag chromaAt))
+      (each-map (Between 1 255) (made s) made-in-range (inZigzag lumaAt))
+      (each-map (Between 1 255) (made s) made-in-range (inZigzag chromaAt))
 
   pub length-made : (entry : ℕ → ℕ → ℕ) → length (map (made s) (inZigzag entry)) ≡ 64
   length-made entry = length-map (inZigzag entry) (made s) ∙ length-in-zigzag entry
@@ -102,6 +99,6 @@ pub length-tables : (q : ℕ) → length (tablesOf q) ≡ 128
 unfolding tablesOf
 length-tables q = length-scaled (scale q)
 
-pub tables-in-range : (q : ℕ) → Each InRange (tablesOf q)
+pub tables-in-range : (q : ℕ) → Each (Between 1 255) (tablesOf q)
 unfolding tablesOf
 tables-in-range q = scaled-in-range (scale q)

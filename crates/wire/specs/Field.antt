@@ -1,7 +1,7 @@
 -- Numbers in a list of bytes, most significant byte first. Assumes nothing.
 use Prim.Native.Nat.{ℕ, zero, suc, _+_, _*_, _^_, _≤_, _<_}
 use mathlib.Core.List.{List, [], _∷_}
-use mathlib.Core.Path.{_≡_, refl}
+use mathlib.Core.Path.{_≡_}
 use native.Mathlib.Nat.{add-zero, add-assoc, pow-suc}
 use native.Mathlib.Omega.{arith}
 use lib.ListN.{length, getD, List·getD-eq-default}
@@ -26,9 +26,9 @@ module _ (l : List ℕ) (at : ℕ) where
   unfolding field
   field-2 = rw (add-zero at) (omega arith)
 
-  pub field-3 : field l at 3 ≡ field l at 2 * 256 + byte l (at + 2)
+  pub field-3 : field l at 3 ≡ byte l at * 65536 + byte l (at + 1) * 256 + byte l (at + 2)
   unfolding field
-  field-3 = refl
+  field-3 = rw (add-zero at) (omega arith)
 
 pub field-4 : (l : List ℕ) (at : ℕ) → field l at 4 ≡ field l at 2 * 65536 + field l (at + 2) 2
 unfolding field

@@ -1,7 +1,7 @@
 -- What the type of a picture says of its restart intervals: RFC 2435 sections 3.1.3 and 4.1. Assumes nothing.
 use Prim.Native.Nat.{ℕ, _≤_, _<_}
 use mathlib.Core.Bool.{Bool, true, false, cond}
-use mathlib.Core.Path.{_≡_, refl}
+use mathlib.Core.Path.{_≡_}
 use native.Mathlib.Omega.{arith}
 use Rattle.laws.specs.Within.{within, is-within, is-under, is-over}
 use Rattle.wire.specs.declared.Restarts.{Restarts}

@@ -8,3 +8,5 @@ pub mod Tables
 pub mod Reading
 pub mod Passed
 pub mod ReadPacket
+pub mod NamedPlaces
+pub mod Ignored

@@ -1,33 +1,32 @@
 -- What is known of a packet that is read. Assumes nothing.
 use Prim.Native.Nat.{ℕ, _+_, _-_, _^_, _≤_, _<_}
-use mathlib.Core.Bool.{Bool, true, false}
-use mathlib.Core.List.{List, [], _++_, append-nil}
+use mathlib.Core.Bool.{true, false}
+use mathlib.Core.List.{List, _++_, append-nil}
 use mathlib.Core.Logic.{_⊎_, inl, inr, ⊎-elim}
 use mathlib.Core.Path.{_≡_, refl, sym, ap, _∙_}
 use native.Mathlib.Omega.{arith}
-use borrow.Author.Tests.{eqb-true, eqb-false, eq-eqb}
+use borrow.Author.Tests.{eqb-true, eqb-false}
 use lib.Dec.{eqb}
 use lib.ListN.{length, take, drop, replicate, length-take, length-drop}
 use lib.Seq.{take-all}
 use Rattle.laws.specs.Each.{Each, each-take, each-drop, each-weaken, each-both}
 use Rattle.laws.specs.Any.{any-none}
-use Rattle.laws.specs.Truth.{split, never-both, and-true}
+use Rattle.laws.specs.Truth.{and-true}
 use Rattle.laws.specs.Within.{Between}
 use Rattle.replies.specs.Checks.{judged, both-passed}
 use Rattle.replies.specs.declared.Judged.{Judged}
 use Rattle.replies.specs.declared.Judged.the-variants.{Passed, Refused}
-use Rattle.wire.specs.Field.{Bytes, field, byte-small, field-small}
+use Rattle.wire.specs.Field.{Bytes, byte-small, field-small}
 use Rattle.wire.specs.Kind.{restartsOf, isOther, isWith}
 use Rattle.wire.specs.Main.{main, mainEnd}
 use Rattle.wire.specs.Passed.{RtpPassed, JpegPassed, rtp-passed, jpeg-passed}
 use Rattle.wire.specs.Reading.{longest, rtpChecks, jpegChecks, checks, headerOf, said, answered, reading, partOf, scanIn, tablesIn}
-use Rattle.wire.specs.Restart.{hasRestart, interval, restartEnd, interval-read, interval-none}
-use Rattle.wire.specs.Rtp.{fixed, headersEnd, payload, payloadLength, length-payload, payload-part, payload-from, payload-inside, payload-bytes, marker-small}
+use Rattle.wire.specs.Restart.{interval, interval-read, interval-none}
+use Rattle.wire.specs.Rtp.{payload, payloadLength, length-payload, payload-part, payload-from, payload-inside, payload-bytes, marker-small}
 use Rattle.wire.specs.TableSource.{tableSource, isReserved, isInBand, isAlwaysBrought}
 use Rattle.wire.specs.Tables.{hasTableHeader, tablesAt, tablesLength, scanAt, tables, isZero, Come, none-or-come, always-come}
 use Rattle.wire.specs.declared.Header.{Header}
 use Rattle.wire.specs.declared.Packet.{Packet}
-use Rattle.wire.specs.declared.Reading.{Reading}
 use Rattle.wire.specs.declared.Reading.the-variants as Answer
 
 -- Header fields such as the reader can give.

@@ -1,6 +1,6 @@
 -- What the reader answers: the checks of document 01 from 11 to 21 in their order, and what a packet says that passes them all. Assumes nothing.
 use Prim.Native.Nat.{ℕ, _+_, _-_}
-use mathlib.Core.Bool.{Bool, cond, not, _&&_, _||_}
+use mathlib.Core.Bool.{not, _&&_, _||_}
 use mathlib.Core.List.{List, [], _∷_, _++_}
 use lib.Dec.{ltb, eqb}
 use lib.ListN.{length, take, drop, replicate}
@@ -8,12 +8,12 @@ use Rattle.replies.specs.Checks.{Check, judged, _when_}
 use Rattle.replies.specs.Reply
 use Rattle.replies.specs.declared.Judged.{Judged}
 use Rattle.replies.specs.declared.Judged.the-variants.{Passed, Refused}
-use Rattle.wire.specs.Rtp.{fixed, fixedEnd, headersEnd, dropped, paddingBroken, payload}
+use Rattle.wire.specs.Rtp.{fixed, fixedEnd, headersEnd, paddingBroken, payload}
 use Rattle.wire.specs.Kind.{restartsOf, isOther}
 use Rattle.wire.specs.TableSource.{tableSource, isReserved}
 use Rattle.wire.specs.Main.{main, mainEnd}
 use Rattle.wire.specs.Restart.{hasRestart, interval, restartEnd}
-use Rattle.wire.specs.Tables.{hasTableHeader, tablesLength, tablesAt, scanAt, tableRuleBroken}
+use Rattle.wire.specs.Tables.{tablesLength, tablesAt, scanAt, tableRuleBroken}
 use Rattle.wire.specs.declared.Header.{Header}
 use Rattle.wire.specs.declared.Packet.{Packet}
 use Rattle.wire.specs.declared.Part.{Part}
@@ -23,7 +23,7 @@ use Rattle.wire.specs.declared.Reading.the-variants as Answer
 abbrev pub longest : ℕ
 longest = 2048
 
--- The checks of the RTP headers, for a source and a packet.
+-- The checks of the RTP headers, for a source and a packet: 11, 10, 12, 13, 14, 10 (CSRC, extension), 10 (padding).
 abbrev pub rtpChecks : ℕ → List ℕ → List Check
 rtpChecks source p =
     Reply.too-long when ltb longest (length p)
@@ -35,7 +35,7 @@ rtpChecks source p =
     ∷ Reply.too-short when paddingBroken p
     ∷ []
 
--- The checks of the JPEG headers, in what is left between the RTP headers and the padding.
+-- The checks of the JPEG headers, in what is left between the RTP headers and the padding: 10 (main header), 15, 16, 17, 18.
 abbrev pub mainChecks : List ℕ → List Check
 mainChecks b =
     Reply.too-short when ltb (length b) mainEnd
@@ -45,12 +45,14 @@ mainChecks b =
     ∷ Reply.side-zero when (eqb (main b .width) 0 || eqb (main b .height) 0)
     ∷ []
 
+-- 10 (restart header), 19
 abbrev pub restartChecks : List ℕ → List Check
 restartChecks b =
     Reply.too-short when ltb (length b) (restartEnd b)
     ∷ Reply.interval-zero when (hasRestart b && eqb (interval b) 0)
     ∷ []
 
+-- 10 (table header or its length), 20, 21
 abbrev pub tableChecks : List ℕ → List Check
 tableChecks b =
     Reply.too-short when ltb (length b) (scanAt b)

@@ -2,7 +2,7 @@
 use Prim.Native.Nat.{ℕ, _+_, _-_, _*_, _/_, _%_, _≤_, _<_}
 use mathlib.Core.Bool.{Bool, true, false, cond, _&&_, _||_}
 use mathlib.Core.List.{List}
-use mathlib.Core.Path.{_≡_, refl}
+use mathlib.Core.Path.{_≡_}
 use native.Mathlib.Omega.{arith}
 use borrow.Author.Tests.{ltb-false}
 use lib.Dec.{ltb, eqb}
@@ -58,6 +58,8 @@ csrcEnd p = fixedEnd + 4 * fixed p .csrcs
 --     +-------------------------------+-------------------------------+
 --     |      defined by profile       |         length, words         |
 --     +-------------------------------+-------------------------------+
+--
+-- Where these 4 bytes are cut off, the end is past that of the packet, whatever is left of the length.
 unfoldable pub headersEnd : List ℕ → ℕ
 headersEnd p = csrcEnd p + cond (eqb (fixed p .extension) 1) (4 + 4 * field p (csrcEnd p + 2) 2) 0
 

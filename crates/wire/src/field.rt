@@ -10,22 +10,29 @@ pub(crate) fn byte_at(s: &[u8], at: usize) -> u8
 }
 
 pub(crate) fn u16_at(s: &[u8], at: usize) -> u16
-    requires { ⌜ at < 65538 ⌝ }
+    requires { ⌜ at < 4294967296 ⌝ }
     ensures { λ r. ⌜ r ≡ field (now (s .entry)) at 2 ⌝ }
 {
-    byte_at(s, at) as u16 * 256 + byte_at(s, at + 1) as u16
+    let high = byte_at(s, at) as u16;
+    let low = byte_at(s, at + 1) as u16;
+    high * 256 + low
 }
 
 pub(crate) fn u24_at(s: &[u8], at: usize) -> u32
     requires { ⌜ at < 65536 ⌝ }
     ensures { λ r. ⌜ r ≡ field (now (s .entry)) at 3 ⌝ }
 {
-    u16_at(s, at) as u32 * 256 + byte_at(s, at + 2) as u32
+    let high = byte_at(s, at) as u32;
+    let middle = byte_at(s, at + 1) as u32;
+    let low = byte_at(s, at + 2) as u32;
+    high * 65536 + middle * 256 + low
 }
 
 pub(crate) fn u32_at(s: &[u8], at: usize) -> u32
     requires { ⌜ at < 65536 ⌝ }
     ensures { λ r. ⌜ r ≡ field (now (s .entry)) at 4 ⌝ }
 {
-    u16_at(s, at) as u32 * 65536 + u16_at(s, at + 2) as u32
+    let high = u16_at(s, at) as u32;
+    let low = u16_at(s, at + 2) as u32;
+    high * 65536 + low
 }

@@ -36,13 +36,16 @@ fn judge_main(payload: &[u8]) -> Judged
     if payload.len() < 8 {
         return Judged::Refused(TOO_SHORT);
     }
-    if restarts_of(byte_at(payload, 4) as u32).are_other() {
+    let other_type = restarts_of(byte_at(payload, 4) as u32).are_other();
+    let type_specific = byte_at(payload, 0) != 0;
+    let reserved_q = table_source(byte_at(payload, 5) as u32).is_reserved();
+    if other_type {
         return Judged::Refused(OTHER_TYPE);
     }
-    if byte_at(payload, 0) != 0 {
+    if type_specific {
         return Judged::Refused(OTHER_TYPE_SPECIFIC);
     }
-    if table_source(byte_at(payload, 5) as u32).is_reserved() {
+    if reserved_q {
         return Judged::Refused(Q_RESERVED);
     }
     if byte_at(payload, 6) == 0 {

@@ -10,8 +10,7 @@ ghost use mathlib.Core.List.{_++_};
 ghost use mathlib.Core.Path.{_≡_};
 ghost use lib.ListN.{length, take, replicate};
 ghost use Rattle.wire.specs.Kind.{restartsOf, isWith, isOther};
-ghost use Rattle.replies.specs.Checks.{judged};
-ghost use Rattle.wire.specs.Reading.{reading, answered, jpegChecks, said, partOf, scanIn, tablesIn};
+ghost use Rattle.wire.specs.Reading.{reading, said, partOf, scanIn, tablesIn};
 ghost use Rattle.wire.specs.Rtp.{Left};
 ghost use Rattle.wire.specs.Tables.{scanAt};
 ghost use Rattle.wire.specs.TableSource.{tableSource, isInBand, isAlwaysBrought, isReserved};
@@ -75,21 +74,13 @@ pub fn read(source: u32, packet: &[u8]) -> Reading
     }
     let start = rtp::headers_end(packet);
     let end = packet.len() - rtp::padding(packet);
-    read_payload(packet, start, &packet[start..end])
-}
-
-// The same from where the RTP headers end, on what is left between them and the padding.
-fn read_payload(packet: &[u8], start: usize, payload: &[u8]) -> Reading
-    requires { ⌜ Left (now packet) start (now payload) ⌝ }
-    ensures { λ r. ⌜ r ≡ answered (judged (jpegChecks (now (payload .entry)))) (said (now (packet .entry))) ⌝ }
-{
-    if let Judged::Refused(number) = jpeg::judge(payload) {
+    if let Judged::Refused(number) = jpeg::judge(&packet[start..end]) {
         return Reading::Refused(number);
     }
-    Reading::Said(told(packet, start, payload))
+    Reading::Said(says(packet, start, &packet[start..end]))
 }
 
-fn told(packet: &[u8], start: usize, payload: &[u8]) -> Packet
+fn says(packet: &[u8], start: usize, payload: &[u8]) -> Packet
     requires { ⌜ Left (now packet) start (now payload) ⌝ }
     requires { ⌜ scanAt (now payload) ≤ length (now payload) ⌝ }
     ensures { λ r. ⌜ r ≡ said (now (packet .entry)) ⌝ }

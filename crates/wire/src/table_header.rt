@@ -1,5 +1,6 @@
 // The table header and the tables behind it, in the first packet of a picture (RFC 2435 section 3.1.8).
 ghost use mathlib.Core.Path.{_≡_};
+ghost use lib.ListN.{length};
 ghost use Rattle.laws.specs.Any.{any};
 ghost use Rattle.replies.specs.Checks.{judged};
 ghost use Rattle.wire.specs.Reading.{tableChecks};
@@ -33,6 +34,7 @@ pub(crate) fn judge_tables(payload: &[u8]) -> Judged
 
 fn rule_broken(payload: &[u8], tables: &[u8]) -> bool
     requires { ⌜ now tables ≡ Tables.tables (now payload) ⌝ }
+    requires { ⌜ length (now tables) ≡ Tables.tablesLength (now payload) ⌝ }
     ensures { λ r. ⌜ r ≡ Tables.tableRuleBroken (now (payload .entry)) ⌝ }
 {
     if !has_table_header(payload) {
@@ -50,10 +52,11 @@ fn rule_broken(payload: &[u8], tables: &[u8]) -> bool
 }
 
 fn has_zero(bytes: &[u8]) -> bool
+    requires { ⌜ length (now bytes) ≡ 128 ⌝ }
     ensures { λ r. ⌜ r ≡ any Tables.isZero (now (bytes .entry)) ⌝ }
 {
     let mut found = false;
-    for i in 0..bytes.len() {
+    for i in 0..128 {
         if bytes[i] == 0 {
             found = true;
         }

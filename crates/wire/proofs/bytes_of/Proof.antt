@@ -2,7 +2,7 @@
 use borrow.Author.Needs.{needs}
 use denote.Ref.{now}
 use native.Mathlib.Omega.{arith}
-use mathlib.Core.Path.{_≡_, sym, ap, _∙_}
+use mathlib.Core.Path.{sym, _∙_}
 use lib.ListN.{length-drop, drop-of-length-le}
 use lib.Seq.{take-all, take-nil}
 use native.Mathlib.Nat.{add-sub-cancel-left}

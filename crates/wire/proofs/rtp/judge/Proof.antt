@@ -6,11 +6,9 @@ use denote.Ref.{now}
 use lib.ListN.{drop}
 use mathlib.Core.List.{List}
 use mathlib.Core.Path.{sym, _∙_}
-use native.Mathlib.Omega.{arith}
 use Rattle.laws.specs.Truth.{same, other}
 use Rattle.replies.specs.Checks.{Check, Past, start, passes, fails, none-left}
 use Rattle.wire.specs.Reading.{rtpChecks}
-use Rattle.wire.specs.Rtp.{fixed}
 use Rattle.wire.proofs.rtp.judge.Statement.{statement}
 use Rattle.wire.proofs.rtp.judge.Tie as tie
 

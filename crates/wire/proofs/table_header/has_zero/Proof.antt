@@ -3,7 +3,7 @@ use borrow.Author.Needs.{needs}
 use borrow.Author.Tests.{eq-eqb, ne-eqb}
 use Prim.Native.Nat.{_-_, _≤_}
 use denote.Ref.{now}
-use lib.ListN.{length, getD, take}
+use lib.ListN.{getD, take}
 use lib.Seq.{take-all}
 use mathlib.Core.Logic.{⊎-elim}
 use mathlib.Core.Path.{_≡_, sym, _∙_}
@@ -14,10 +14,10 @@ use Rattle.wire.proofs.table_header.has_zero.Statement.{statement}
 use Rattle.wire.proofs.table_header.has_zero.Tie as tie
 
 abbrev Inv-loop : tie.InvT-loop
-Inv-loop bytes found₀ i₀ i-end found i = (i ≤ length bytes) × (found ≡ any isZero (take i bytes))
+Inv-loop bytes found₀ i₀ found i = (i ≤ 128) × (found ≡ any isZero (take i bytes))
 
 abbrev μ-loop : tie.MeasureT-loop
-μ-loop bytes found₀ i₀ i-end found i = length bytes - i
+μ-loop bytes found₀ i₀ found i = 128 - i
 
 loop-holds : tie.Need-loop-holds Inv-loop μ-loop
 loop-holds c = search needs

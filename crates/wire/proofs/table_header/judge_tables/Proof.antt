@@ -1,15 +1,16 @@
 -- `wire::table_header::judge_tables` meets its contract: each test of the code decides the next check of the list. Assumes nothing.
 use borrow.Author.Needs.{needs}
 use borrow.Author.Tests.{lt-ltb, le-ltb, eq-eqb, ne-eqb}
-use Prim.Native.Nat.{ℕ, _+_}
+use Prim.Native.Nat.{ℕ}
 use denote.Ref.{now}
-use lib.ListN.{length, drop}
-use mathlib.Core.Path.{_≡_, sym, _∙_}
+use lib.ListN.{drop}
+use mathlib.Core.Path.{sym, _∙_}
 use native.Mathlib.Nat.{add-sub-cancel-left}
 use native.Mathlib.Omega.{arith}
 use Rattle.replies.specs.Checks.{Past, start, passes, fails, none-left}
 use Rattle.wire.specs.Reading.{tableChecks}
-use Rattle.wire.specs.Tables.{tablesAt, tablesLength, scanAt, tables-at-small}
+use Rattle.wire.specs.Tables.{scanAt, tables-at-small}
+use lib.ListN.{length-take, length-drop}
 use Rattle.wire.proofs.table_header.judge_tables.Statement.{statement}
 use Rattle.wire.proofs.table_header.judge_tables.Tie as tie
 
@@ -50,7 +51,8 @@ part-rule-broken-end : tie.Need-part-rule-broken-end
 part-rule-broken-end c = search needs
 
 rule-broken-requires : tie.Need-rule-broken-requires
-rule-broken-requires c κs = rw (c .before .before .before .tables-at .ensures, c .before .before .tables-length .ensures, add-sub-cancel-left)
+rule-broken-requires c κs =
+    (rw (c .before .before .before .tables-at .ensures, c .before .before .tables-length .ensures, add-sub-cancel-left), simp (length-take, length-drop) (omega arith))
 
 returns-2 : tie.Need-returns-2
 returns-2 c = sym (fails (passed-1 (c .before .before .before)) (sym (c .before .rule-broken .ensures) ∙ c .if2 .taken))

@@ -50,7 +50,7 @@ returns-3 : tie.Need-returns-3
 returns-3 c = c .always-brought .ensures ∙ sym (rule-none _ (header (c .before .before .before .before .before .before)) (narrow (c .before .before .before)) (sym (c .before .before .tables-length .ensures) ∙ c .before .match .keys1))
 
 returns-4 : tie.Need-returns-4
-returns-4 c = c .has-zero .ensures ∙ ap (any isZero) (c .before .before .before .before .before .before .before .before .before .before .pre) ∙ sym (rule-full _ (header (c .before .before .before .before .before .before)) (narrow (c .before .before .before)) (sym (c .before .before .tables-length .ensures) ∙ c .before .match .keys2))
+returns-4 c = c .has-zero .ensures ∙ ap (any isZero) (c .before .before .before .before .before .before .before .before .before .before .pre .0) ∙ sym (rule-full _ (header (c .before .before .before .before .before .before)) (narrow (c .before .before .before)) (sym (c .before .before .tables-length .ensures) ∙ c .before .match .keys2))
 
 returns-5 : tie.Need-returns-5
 returns-5 c =

@@ -1,15 +1,11 @@
--- `wire::told` meets its contract. Assumes nothing.
+-- `wire::says` meets its contract. Assumes nothing.
 use borrow.Author.Needs.{needs}
 use denote.Ref.{now}
 use native.Mathlib.Omega.{arith}
-use Prim.Native.Nat.{_+_, _≤_}
-use lib.ListN.{length}
-use mathlib.Core.Path.{_≡_, sym, ap, _∙_}
 use Rattle.wire.specs.Tables.{scanAt, tables-at-small}
 use Rattle.wire.specs.Reading.{said}
-use native.Mathlib.Nat.{le-of-lt}
-use Rattle.wire.proofs.told.Statement.{statement}
-use Rattle.wire.proofs.told.Tie as tie
+use Rattle.wire.proofs.says.Statement.{statement}
+use Rattle.wire.proofs.says.Tie as tie
 
 tables-at-requires : tie.Need-tables-at-requires
 tables-at-requires c κs = search needs
@@ -52,8 +48,8 @@ returns : tie.Need-returns
 unfolding said scanAt
 returns c = rw (c .header .ensures, c .before .u24-at .ensures, c .before .before .u32-at .ensures, c .before .before .before .byte-at .ensures, c .before .before .before .before .tables-length .ensures, c .before .before .before .before .before .tables-at .ensures, c .before .before .before .before .before .before .before .before .pre .0 .place, c .before .before .before .before .before .before .before .before .pre .0 .bytes)
 
-pub told-spec : {M : Type 1} → statement M
-told-spec =
+pub says-spec : {M : Type 1} → statement M
+says-spec =
     tie.close
     (tie.spec
     tables-at-requires
