@@ -1,1 +1,1 @@
-// Laws on lists that several crates cite: no code, and specs/ has them all.
+// Laws on lists and tests that several crates cite: no code, and specs/ has them all.
