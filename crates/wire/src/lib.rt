@@ -36,6 +36,7 @@ pub struct Part {
     pub length: usize,
 }
 
+// What a packet says, and where its tables and its scan data lie in it.
 pub struct Packet {
     pub marker: u32,
     pub time: u32,
@@ -45,19 +46,20 @@ pub struct Packet {
     pub scan: Part,
 }
 
+// A refusal with its number, or what the packet says.
 pub enum Reading {
     Refused(u32),
     Said(Packet),
 }
 
-// Whether the scan of a type has restart intervals.
+// Whether the pictures of a type have restart intervals, or are not carried at all.
 pub enum Restarts {
     Without,
     With,
     OtherType,
 }
 
-// Where the tables of a Q come from.
+// Where the tables of a Q come from, or that it has no meaning.
 pub enum TableSource {
     Made,
     KeptOrBrought,
@@ -80,6 +82,7 @@ pub fn read(source: u32, packet: &[u8]) -> Reading
     Reading::Said(says(packet, start, &packet[start..end]))
 }
 
+// The values of a packet that has passed its checks, from the packet and from its payload, which begins at `start`.
 fn says(packet: &[u8], start: usize, payload: &[u8]) -> Packet
     requires { ⌜ Left (now packet) start (now payload) ⌝ }
     requires { ⌜ scanAt (now payload) ≤ length (now payload) ⌝ }
