@@ -2,9 +2,9 @@
 use Prim.Native.Nat.{ℕ, _≤_, _<_}
 use mathlib.Core.Bool.{Bool, true, false, _&&_}
 use mathlib.Core.Path.{_≡_}
-use borrow.Author.Tests.{le-leb, lt-leb, leb-true}
+use borrow.Author.Tests.{le-leb, lt-leb}
 use lib.Dec.{leb}
-use Rattle.laws.specs.Truth.{and-true, and-false}
+use Rattle.laws.specs.Truth.{and-false}
 
 unfoldable pub within : ℕ → ℕ → ℕ → Bool
 within low high n = leb low n && leb n high
@@ -27,7 +27,3 @@ module _ (low high n : ℕ) where
   pub is-over : high < n → within low high n ≡ false
   unfolding within
   is-over h = rw (lt-leb n high h) (and-false (leb low n))
-
-  pub within-true : within low high n ≡ true → Between low high n
-  unfolding within
-  within-true e = let t = and-true (leb low n) (leb n high) e in (leb-true low n (t .0), leb-true n high (t .1))
