@@ -5,9 +5,9 @@ use mathlib.Core.Path.{_≡_, sym, _∙_}
 use Rattle.replies.specs.Output.{refused, succeeded, writes-determined}
 use Rattle.replies.specs.declared.Written.{Written}
 use Rattle.tables.specs.MakeTables.{MakesTables}
-use Rattle.wire.specs.Kind.{restartsOf}
-use Rattle.wire.specs.Reading.{reading, scanIn, tablesIn}
-use Rattle.wire.specs.TableSource.{tableSource}
+use Rattle.wire.specs.Kind.{TellsRestarts}
+use Rattle.wire.specs.Reading.{Reads, GivesScan, GivesTables}
+use Rattle.wire.specs.TableSource.{TellsSource}
 use Rattle.wire.specs.declared.Packet.{Packet}
 use Rattle.wire.specs.declared.Reading.{Reading}
 use Rattle.wire.specs.declared.Restarts.{Restarts}
@@ -29,17 +29,17 @@ pub make-tables : (q : ℕ) (before : List ℕ) (w w′ : Written) (after after�
 make-tables q before w w′ after after′ a b = writes-determined a b
 
 -- `wire::read`; `wire::scan` and `wire::tables`, by the bytes that they hand out; `wire::restarts_of` and `wire::table_source`
-pub read : (source : ℕ) (packet : List ℕ) (r r′ : Reading) → r ≡ reading source packet → r′ ≡ reading source packet → r ≡ r′
+pub read : (source : ℕ) (packet : List ℕ) (r r′ : Reading) → Reads source packet r → Reads source packet r′ → r ≡ r′
 read source packet r r′ a b = only a b
 
-pub scan : (packet : List ℕ) (said : Packet) (l l′ : List ℕ) → l ≡ scanIn packet said → l′ ≡ scanIn packet said → l ≡ l′
+pub scan : (packet : List ℕ) (said : Packet) (l l′ : List ℕ) → GivesScan packet said l → GivesScan packet said l′ → l ≡ l′
 scan packet said l l′ a b = only a b
 
-pub tables : (packet : List ℕ) (said : Packet) (l l′ : List ℕ) → l ≡ tablesIn packet said → l′ ≡ tablesIn packet said → l ≡ l′
+pub tables : (packet : List ℕ) (said : Packet) (l l′ : List ℕ) → GivesTables packet said l → GivesTables packet said l′ → l ≡ l′
 tables packet said l l′ a b = only a b
 
-pub restarts-of : (kind : ℕ) (r r′ : Restarts) → r ≡ restartsOf kind → r′ ≡ restartsOf kind → r ≡ r′
+pub restarts-of : (kind : ℕ) (r r′ : Restarts) → TellsRestarts kind r → TellsRestarts kind r′ → r ≡ r′
 restarts-of kind r r′ a b = only a b
 
-pub table-source : (q : ℕ) (s s′ : TableSource) → s ≡ tableSource q → s′ ≡ tableSource q → s ≡ s′
+pub table-source : (q : ℕ) (s s′ : TableSource) → TellsSource q s → TellsSource q s′ → s ≡ s′
 table-source q s s′ a b = only a b

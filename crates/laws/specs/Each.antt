@@ -1,8 +1,7 @@
 -- What each element of a list has. Assumes nothing.
-use Prim.Native.Nat.{ℕ, zero, suc, _<_}
+use Prim.Native.Nat.{ℕ, zero, suc}
 use mathlib.Core.List.{List, [], _∷_, _++_, map}
-use native.Mathlib.Nat.{not-suc-le-zero, le-of-suc-le-suc}
-use lib.ListN.{length, getD, take, drop}
+use lib.ListN.{take, drop}
 
 module _ {A : Type 0} (P : A → Type 0) where
   abbrev pub Each : List A → Type 0
@@ -16,11 +15,6 @@ module _ {A : Type 0} (P : A → Type 0) where
   pub each-map : {B : Type 0} (f : B → A) → ((x : B) → P (f x)) → (l : List B) → Each (map f l)
   each-map f h [] = tt
   each-map f h (x ∷ l) = (h x, each-map f h l)
-
-  pub each-at : (l : List A) (i : ℕ) (d : A) → Each l → i < length l → P (getD l i d)
-  each-at [] i d a h = absurd (not-suc-le-zero h)
-  each-at (x ∷ l) zero d a h = a .0
-  each-at (x ∷ l) (suc i) d a h = each-at l i d (a .1) (le-of-suc-le-suc h)
 
   pub each-take : (n : ℕ) (l : List A) → Each l → Each (take n l)
   each-take zero l a = tt

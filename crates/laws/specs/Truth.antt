@@ -1,4 +1,4 @@
--- Going by cases on tests that are joined. Assumes nothing.
+-- Tests and what they tell: by cases, joined by `&&` and `||`, and of two numbers. Assumes nothing.
 use Prim.Native.Nat.{ℕ}
 use mathlib.Core.Bool.{Bool, true, false, not, _&&_, _||_}
 use mathlib.Core.Path.{_≡_, refl, sym, subst, _∙_}

@@ -1,4 +1,4 @@
-// The reply numbers of document 01, and what the calls that write into a lent output answer.
+// The reply numbers of document 01, what a list of checks comes to, and what the calls that write into a lent output answer.
 ghost use mathlib.Core.Path.{_≡_};
 ghost use Rattle.replies.specs.Output.{refused, succeeded};
 

@@ -31,14 +31,14 @@ fn answer(line: &[u8]) {
     io::write_all(STDOUT_FILENO, line);
     if 0 < line.len() && line[0] != b'#' {
         io::write_all(STDOUT_FILENO, b" ->");
-        if !is_case(line) {
+        if !run_case(line) {
             io::write_all(STDOUT_FILENO, b" ?");
         }
     }
     io::write_all(STDOUT_FILENO, b"\n");
 }
 
-// Whether the line is a case, which is then run.
-fn is_case(line: &[u8]) -> bool {
+// Runs the case on a line; whether it is one.
+fn run_case(line: &[u8]) -> bool {
     tables_case::run(line) || packet_case::run(line)
 }

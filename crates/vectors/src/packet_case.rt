@@ -1,5 +1,5 @@
-// A case of the packet reader, `packet`, `brought` or `scan`, then SOURCE BYTES: the number of a refusal; or what the packet
-// says, behind a 0; the 128 table bytes that it brings; or its scan data.
+// Cases of the packet reader. Each gives the number of a refusal; or 0 and then, for `packet SOURCE BYTES` what the packet says,
+// for `brought SOURCE BYTES` its 128 table bytes, for `scan SOURCE BYTES` its scan data.
 use crate::hex::read_hex;
 use crate::text::Number;
 use crate::text::begins;
@@ -46,16 +46,18 @@ fn read(line: &[u8], at: usize, shown: Shown) -> bool {
 fn show(source: u32, packet: &[u8], shown: Shown) {
     match wire::read(source, packet) {
         Reading::Refused(number) => write_number(number as u64),
-        Reading::Said(said) => match shown {
-            Shown::Fields => write_fields(said),
-            Shown::Tables => write_bytes(&wire::tables(packet, said)),
-            Shown::Scan => write_bytes(wire::scan(packet, said)),
-        },
+        Reading::Said(said) => {
+            write_number(0);
+            match shown {
+                Shown::Fields => write_fields(said),
+                Shown::Tables => write_bytes(&wire::tables(packet, said)),
+                Shown::Scan => write_bytes(wire::scan(packet, said)),
+            }
+        }
     }
 }
 
 fn write_fields(said: Packet) {
-    write_number(0);
     write_number(said.marker as u64);
     write_number(said.time as u64);
     write_number(said.offset as u64);

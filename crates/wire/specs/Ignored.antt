@@ -174,7 +174,7 @@ module _ (source : ℕ) (p : List ℕ) where
   unfolding payloadLength
   padding-ignored i v a b c = outside-ignored i v (unnamed-behind p i a (λ e. c)) (omega arith)
 
-  -- in the payload, not where the number of padding bytes stands: F, L and count; the zero byte; the upper bits of the precision; the scan data
+  -- a byte of the payload that is not the last of a padded packet: F, L and count; the zero byte; the upper bits of the precision; the scan data
   module _ (j v : ℕ) (count : fixed p .padding ≡ 1 → headersEnd p + j + 1 < length p) where
     payload-ignored : UnnamedPayload (payload p) j v → reading source (set p (headersEnd p + j) v) ≡ reading source p
     payload-ignored u = inside-ignored j v (unnamed-behind p (headersEnd p + j) (omega arith) count) u

@@ -7,6 +7,6 @@ pub mod Restart
 pub mod Tables
 pub mod Reading
 pub mod Passed
-pub mod ReadPacket
+pub mod Readable
 pub mod NamedPlaces
 pub mod Ignored

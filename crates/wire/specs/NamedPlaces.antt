@@ -136,7 +136,7 @@ something-behind source a some =
     let same = same-dropped (a .headers) (a .padding some) in
     cc (same-checks (a .headers) same (a .payloads some) source, same-said (a .headers) same (a .payloads some))
 
--- With nothing behind the headers, five checks go by the fixed header, and the three behind them, of which the last fails, have one reply.
+-- Present nothing behind the headers, five checks go by the fixed header, and the three behind them, of which the last fails, have one reply.
 payload-empty : (p : List ℕ) → length p ≤ headersEnd p → length (payload p) ≡ 0
 unfolding payload
 payload-empty p h = simp (length-take, length-drop) (omega arith)

@@ -10,11 +10,11 @@ use lib.ListN.{length}
 use Rattle.laws.specs.Truth.{or-none, are-same}
 use Rattle.replies.specs.Checks.{judged, all-hold}
 use Rattle.replies.specs.declared.Judged.the-variants.{Passed}
-use Rattle.wire.specs.Kind.{restartsOf, isOther}
+use Rattle.wire.specs.Kind.{restartsOf, isNotCarried}
 use Rattle.wire.specs.Main.{main, mainEnd}
-use Rattle.wire.specs.Reading.{longest, rtpChecks, jpegChecks}
+use Rattle.wire.specs.Reading.{rtpChecks, jpegChecks}
 use Rattle.wire.specs.Restart.{hasRestart, interval, restartEnd}
-use Rattle.wire.specs.Rtp.{fixed, fixedEnd, headersEnd, dropped, padding-fits}
+use Rattle.wire.specs.Rtp.{longest, fixed, fixedEnd, headersEnd, dropped, paddingBroken, padding-fits}
 use Rattle.wire.specs.TableSource.{tableSource, isReserved}
 use Rattle.wire.specs.Tables.{scanAt, tableRuleBroken}
 
@@ -25,7 +25,8 @@ pub record RtpPassed (source : ℕ) (p : List ℕ) : Type 0 where
   pub payloadType : fixed p .payloadType ≡ 26
   pub from : fixed p .source ≡ source
   pub headers : headersEnd p ≤ length p
-  pub padding : dropped p ≤ length p - headersEnd p
+  pub padding : paddingBroken p ≡ false
+  pub fits : dropped p ≤ length p - headersEnd p
 
 pub rtp-passed : (source : ℕ) (p : List ℕ) → judged (rtpChecks source p) ≡ Passed → RtpPassed source p
 rtp-passed source p e =
@@ -37,12 +38,13 @@ rtp-passed source p e =
       payloadType = are-same (fixed p .payloadType) 26 (t .1 .1 .1 .0);
       from = are-same (fixed p .source) source (t .1 .1 .1 .1 .0);
       headers = ltb-false (length p) (headersEnd p) (t .1 .1 .1 .1 .1 .0);
-      padding = padding-fits p (t .1 .1 .1 .1 .1 .1 .0);
+      padding = t .1 .1 .1 .1 .1 .1 .0;
+      fits = padding-fits p (t .1 .1 .1 .1 .1 .1 .0);
     }
 
 pub record JpegPassed (b : List ℕ) : Type 0 where
   pub long : mainEnd ≤ length b
-  pub kind : isOther (restartsOf (main b .kind)) ≡ false
+  pub kind : isNotCarried (restartsOf (main b .kind)) ≡ false
   pub specific : main b .specific ≡ 0
   pub q : isReserved (tableSource (main b .q)) ≡ false
   pub width : main b .width ≡ 0 → ⊥

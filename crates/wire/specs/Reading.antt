@@ -2,14 +2,16 @@
 use Prim.Native.Nat.{ℕ, _+_, _-_}
 use mathlib.Core.Bool.{not, _&&_, _||_}
 use mathlib.Core.List.{List, [], _∷_, _++_}
+use mathlib.Core.Path.{_≡_}
+use native.Mathlib.Omega.{arith}
 use lib.Dec.{ltb, eqb}
-use lib.ListN.{length, take, drop, replicate}
+use lib.ListN.{length, take, drop, replicate, length-append, length-take, length-replicate}
 use Rattle.replies.specs.Checks.{Check, judged, _when_}
 use Rattle.replies.specs.Reply
 use Rattle.replies.specs.declared.Judged.{Judged}
 use Rattle.replies.specs.declared.Judged.the-variants.{Passed, Refused}
-use Rattle.wire.specs.Rtp.{fixed, fixedEnd, headersEnd, paddingBroken, payload}
-use Rattle.wire.specs.Kind.{restartsOf, isOther}
+use Rattle.wire.specs.Rtp.{longest, fixed, fixedEnd, headersEnd, paddingBroken, payload}
+use Rattle.wire.specs.Kind.{restartsOf, isNotCarried}
 use Rattle.wire.specs.TableSource.{tableSource, isReserved}
 use Rattle.wire.specs.Main.{main, mainEnd}
 use Rattle.wire.specs.Restart.{hasRestart, interval, restartEnd}
@@ -19,9 +21,6 @@ use Rattle.wire.specs.declared.Packet.{Packet}
 use Rattle.wire.specs.declared.Part.{Part}
 use Rattle.wire.specs.declared.Reading.{Reading}
 use Rattle.wire.specs.declared.Reading.the-variants as Answer
-
-abbrev pub longest : ℕ
-longest = 2048
 
 -- The checks of the RTP headers, for a source and a packet: 11, 10, 12, 13, 14, 10 (CSRC, extension), 10 (padding).
 abbrev pub rtpChecks : ℕ → List ℕ → List Check
@@ -39,7 +38,7 @@ rtpChecks source p =
 abbrev pub mainChecks : List ℕ → List Check
 mainChecks b =
     Reply.too-short when ltb (length b) mainEnd
-    ∷ Reply.other-type when isOther (restartsOf (main b .kind))
+    ∷ Reply.other-type when isNotCarried (restartsOf (main b .kind))
     ∷ Reply.other-type-specific when not (eqb (main b .specific) 0)
     ∷ Reply.q-reserved when isReserved (tableSource (main b .q))
     ∷ Reply.side-zero when (eqb (main b .width) 0 || eqb (main b .height) 0)
@@ -103,3 +102,19 @@ scanIn p s = partOf p (s .scan)
 
 unfoldable pub tablesIn : List ℕ → Packet → List ℕ
 tablesIn p s = take 128 (partOf p (s .tables)) ++ replicate (128 - length (partOf p (s .tables))) 0
+
+-- The outcomes of `read`, of `scan` and of `tables`, the last two by the bytes that they give.
+abbrev pub Reads : ℕ → List ℕ → Reading → Type 0
+Reads source p r = r ≡ reading source p
+
+abbrev pub GivesScan : List ℕ → Packet → List ℕ → Type 0
+GivesScan p s l = l ≡ scanIn p s
+
+abbrev pub GivesTables : List ℕ → Packet → List ℕ → Type 0
+GivesTables p s l = l ≡ tablesIn p s
+
+-- ---- laws
+
+pub length-tables-in : (p : List ℕ) (s : Packet) → length (tablesIn p s) ≡ 128
+unfolding tablesIn
+length-tables-in p s = simp (length-append, length-take, length-replicate) (omega arith)

@@ -5,7 +5,7 @@ use mathlib.Core.List.{List}
 use mathlib.Core.Path.{_≡_}
 use native.Mathlib.Omega.{arith}
 use Rattle.wire.specs.Field.{field}
-use Rattle.wire.specs.Kind.{restartsOf, isWith}
+use Rattle.wire.specs.Kind.{restartsOf, arePresent}
 use Rattle.wire.specs.Main.{main, mainEnd}
 
 --      0                   1                   2                   3
@@ -14,7 +14,7 @@ use Rattle.wire.specs.Main.{main, mainEnd}
 --   8 |           interval            |F|L|           count           |
 --     +-------------------------------+-+-+---------------------------+
 abbrev pub hasRestart : List ℕ → Bool
-hasRestart b = isWith (restartsOf (main b .kind))
+hasRestart b = arePresent (restartsOf (main b .kind))
 
 unfoldable pub interval : List ℕ → ℕ
 interval b = cond (hasRestart b) (field b mainEnd 2) 0

@@ -13,6 +13,10 @@ use Rattle.laws.specs.Lists.{drop-take, part-of-part}
 use Rattle.laws.specs.Truth.{or-none}
 use Rattle.wire.specs.Field.{Bytes, byte, field, byte-small}
 
+-- A longer packet is not read.
+abbrev pub longest : ℕ
+longest = 2048
+
 -- The fixed header.
 --
 --      0                   1                   2                   3
@@ -78,13 +82,13 @@ payloadLength p = length p - dropped p - headersEnd p
 unfoldable pub payload : List ℕ → List ℕ
 payload p = take (payloadLength p) (drop (headersEnd p) p)
 
--- ---- laws
-
--- a place and a list that are where the RTP headers of a packet end and what is left there, in a packet that can be read
-pub record Left (p : List ℕ) (start : ℕ) (b : List ℕ) : Type 0 where
+-- A place and a list: where the RTP headers of a packet end, and what is left there. The place is small, since the packet is.
+pub record Rest (p : List ℕ) (start : ℕ) (b : List ℕ) : Type 0 where
   pub place : start ≡ headersEnd p
   pub bytes : b ≡ payload p
-  pub near : start ≤ 2048
+  pub near : start ≤ longest
+
+-- ---- laws
 
 module _ (p : List ℕ) where
   pub padding-fits : paddingBroken p ≡ false → dropped p ≤ length p - headersEnd p

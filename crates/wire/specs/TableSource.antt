@@ -36,6 +36,10 @@ isInBand KeptOrBrought = true
 isInBand AlwaysBrought = true
 isInBand Reserved = false
 
+-- The outcome of `table_source`.
+abbrev pub TellsSource : ℕ → TableSource → Type 0
+TellsSource q s = s ≡ tableSource q
+
 -- ---- laws
 
 module _ (q : ℕ) where

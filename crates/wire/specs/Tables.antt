@@ -90,7 +90,7 @@ module _ (b : List ℕ) where
       unfolding tableRuleBroken
       rule-other h g = rw (header, eq-eqb (precision b) 0 bytes, ne-eqb (tablesLength b) 0 h, ne-eqb (tablesLength b) 128 g)
 
-  pub length-without : hasTableHeader b ≡ false → tablesLength b ≡ 0
+  length-without : hasTableHeader b ≡ false → tablesLength b ≡ 0
   unfolding tablesLength
   length-without e = rw e
 

@@ -1,4 +1,5 @@
-// Numbers in a slice of bytes, most significant byte first. Past the end of the slice every byte is 0.
+// Numbers in a slice of bytes, most significant byte first. Past the end of the slice every byte is 0. The bounds on a place keep
+// the sums below from wrapping; a packet's places are far under them.
 ghost use Prim.Native.Nat.{_<_};
 ghost use mathlib.Core.Path.{_≡_};
 ghost use Rattle.wire.specs.Field.{byte, field};

@@ -36,7 +36,8 @@ fn judge_main(payload: &[u8]) -> Judged
     if payload.len() < 8 {
         return Judged::Refused(TOO_SHORT);
     }
-    let other_type = restarts_of(byte_at(payload, 4) as u32).are_other();
+    // what is asked of the fields first, so that the checks stand in their order below
+    let other_type = restarts_of(byte_at(payload, 4) as u32).is_not_carried();
     let type_specific = byte_at(payload, 0) != 0;
     let reserved_q = table_source(byte_at(payload, 5) as u32).is_reserved();
     if other_type {

@@ -9,11 +9,11 @@ ghost use Prim.Native.Nat.{_-_, _≤_};
 ghost use mathlib.Core.List.{_++_};
 ghost use mathlib.Core.Path.{_≡_};
 ghost use lib.ListN.{length, take, replicate};
-ghost use Rattle.wire.specs.Kind.{restartsOf, isWith, isOther};
-ghost use Rattle.wire.specs.Reading.{reading, said, partOf, scanIn, tablesIn};
-ghost use Rattle.wire.specs.Rtp.{Left};
+ghost use Rattle.wire.specs.Kind.{TellsRestarts, arePresent, isNotCarried};
+ghost use Rattle.wire.specs.Reading.{Reads, GivesScan, GivesTables, said, partOf};
+ghost use Rattle.wire.specs.Rtp.{Rest};
 ghost use Rattle.wire.specs.Tables.{scanAt};
-ghost use Rattle.wire.specs.TableSource.{tableSource, isInBand, isAlwaysBrought, isReserved};
+ghost use Rattle.wire.specs.TableSource.{TellsSource, isInBand, isAlwaysBrought, isReserved};
 use crate::field::byte_at;
 use crate::field::u24_at;
 use crate::field::u32_at;
@@ -21,7 +21,8 @@ use crate::table_header::tables_at;
 use crate::table_header::tables_length;
 use replies::Judged;
 
-// What stands in the headers of every packet of a picture.
+// What the headers of every packet of a picture have in common: the type, Q, the sides in units of 8 pixels, and the restart
+// interval, 0 for types 0 and 1.
 pub struct Header {
     pub kind: u32,
     pub q: u32,
@@ -54,9 +55,9 @@ pub enum Reading {
 
 // Whether the pictures of a type have restart intervals, or are not carried at all.
 pub enum Restarts {
-    Without,
-    With,
-    OtherType,
+    Absent,
+    Present,
+    NotCarried,
 }
 
 // Where the tables of a Q come from, or that it has no meaning.
@@ -67,9 +68,9 @@ pub enum TableSource {
     Reserved,
 }
 
-// What a packet says, for a receiver of a source.
+// What a packet says to a receiver of that source, or why it is refused.
 pub fn read(source: u32, packet: &[u8]) -> Reading
-    ensures { λ r. ⌜ r ≡ reading source (now (packet .entry)) ⌝ }
+    ensures { λ r. ⌜ Reads source (now (packet .entry)) r ⌝ }
 {
     if let Judged::Refused(number) = rtp::judge(source, packet) {
         return Reading::Refused(number);
@@ -84,7 +85,7 @@ pub fn read(source: u32, packet: &[u8]) -> Reading
 
 // The values of a packet that has passed its checks, from the packet and from its payload, which begins at `start`.
 fn says(packet: &[u8], start: usize, payload: &[u8]) -> Packet
-    requires { ⌜ Left (now packet) start (now payload) ⌝ }
+    requires { ⌜ Rest (now packet) start (now payload) ⌝ }
     requires { ⌜ scanAt (now payload) ≤ length (now payload) ⌝ }
     ensures { λ r. ⌜ r ≡ said (now (packet .entry)) ⌝ }
 {
@@ -109,15 +110,15 @@ fn says(packet: &[u8], start: usize, payload: &[u8]) -> Packet
 
 // The scan data of a packet, which is a part of the packet itself.
 pub fn scan(packet: &[u8], said: Packet) -> &[u8]
-    ensures { λ r. ⌜ now r ≡ scanIn (now (packet .entry)) said ⌝ }
+    ensures { λ r. ⌜ GivesScan (now (packet .entry)) said (now r) ⌝ }
 {
     let part = said.scan;
     bytes_of(packet, part)
 }
 
-// The tables that a packet brings, filled up with 0.
+// The tables that a packet brings, and 128 zeros where none come.
 pub fn tables(packet: &[u8], said: Packet) -> [u8; 128]
-    ensures { λ r. ⌜ r ≡ tablesIn (now (packet .entry)) said ⌝ }
+    ensures { λ r. ⌜ GivesTables (now (packet .entry)) said r ⌝ }
 {
     let part = said.tables;
     filled_up(bytes_of(packet, part))
@@ -138,6 +139,7 @@ fn bytes_of(packet: &[u8], part: Part) -> &[u8]
     &packet[at..at + length]
 }
 
+// 128 bytes: the first of these, and 0 where there are fewer.
 fn filled_up(bytes: &[u8]) -> [u8; 128]
     ensures { λ r. ⌜ r ≡ take 128 (now (bytes .entry)) ++ replicate (128 - length (now (bytes .entry))) 0 ⌝ }
 {
@@ -150,17 +152,17 @@ fn filled_up(bytes: &[u8]) -> [u8; 128]
 }
 
 pub fn restarts_of(kind: u32) -> Restarts
-    ensures { λ r. ⌜ r ≡ restartsOf kind ⌝ }
+    ensures { λ r. ⌜ TellsRestarts kind r ⌝ }
 {
     match kind {
-        0 | 1 => Restarts::Without,
-        64 | 65 => Restarts::With,
-        _ => Restarts::OtherType,
+        0 | 1 => Restarts::Absent,
+        64 | 65 => Restarts::Present,
+        _ => Restarts::NotCarried,
     }
 }
 
 pub fn table_source(q: u32) -> TableSource
-    ensures { λ r. ⌜ r ≡ tableSource q ⌝ }
+    ensures { λ r. ⌜ TellsSource q r ⌝ }
 {
     match q {
         1..=50 | 51..=99 => TableSource::Made,
@@ -171,23 +173,23 @@ pub fn table_source(q: u32) -> TableSource
 }
 
 impl Restarts {
-    pub(crate) fn are_with(self) -> bool
-        ensures { λ r. ⌜ r ≡ isWith self ⌝ }
+    pub(crate) fn are_present(self) -> bool
+        ensures { λ r. ⌜ r ≡ arePresent self ⌝ }
     {
         match self {
-            Restarts::Without => false,
-            Restarts::With => true,
-            Restarts::OtherType => false,
+            Restarts::Absent => false,
+            Restarts::Present => true,
+            Restarts::NotCarried => false,
         }
     }
 
-    pub(crate) fn are_other(self) -> bool
-        ensures { λ r. ⌜ r ≡ isOther self ⌝ }
+    pub(crate) fn is_not_carried(self) -> bool
+        ensures { λ r. ⌜ r ≡ isNotCarried self ⌝ }
     {
         match self {
-            Restarts::Without => false,
-            Restarts::With => false,
-            Restarts::OtherType => true,
+            Restarts::Absent => false,
+            Restarts::Present => false,
+            Restarts::NotCarried => true,
         }
     }
 }

@@ -28,7 +28,7 @@ pub(crate) fn judge_restart(payload: &[u8]) -> Judged
 fn has_restart(payload: &[u8]) -> bool
     ensures { λ r. ⌜ r ≡ Restart.hasRestart (now (payload .entry)) ⌝ }
 {
-    restarts_of(byte_at(payload, 4) as u32).are_with()
+    restarts_of(byte_at(payload, 4) as u32).are_present()
 }
 
 pub(crate) fn interval(payload: &[u8]) -> u32

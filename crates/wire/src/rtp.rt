@@ -70,7 +70,7 @@ pub(crate) fn padding(packet: &[u8]) -> usize
 
 fn padding_broken(packet: &[u8], end: usize) -> bool
     requires { ⌜ end ≡ headersEnd (now packet) ⌝ }
-    requires { ⌜ (0 < length (now packet)) × (end ≤ length (now packet)) ⌝ }
+    requires { ⌜ (12 ≤ length (now packet)) × (end ≤ length (now packet)) ⌝ }
     ensures { λ r. ⌜ r ≡ paddingBroken (now (packet .entry)) ⌝ }
 {
     if byte_at(packet, 0) / 32 % 2 != 1 {

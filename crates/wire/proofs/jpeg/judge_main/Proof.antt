@@ -7,7 +7,7 @@ use lib.ListN.{drop}
 use mathlib.Core.Path.{_≡_, sym, ap, _∙_}
 use native.Mathlib.Omega.{arith}
 use Rattle.replies.specs.Checks.{Past, start, passes, fails, none-left}
-use Rattle.wire.specs.Kind.{restartsOf, isOther}
+use Rattle.wire.specs.Kind.{restartsOf, isNotCarried}
 use Rattle.wire.specs.Main.{main}
 use Rattle.wire.specs.Reading.{mainChecks}
 use Rattle.wire.specs.TableSource.{tableSource, isReserved}
@@ -21,20 +21,20 @@ Passed s k = Past (mainChecks (now (s .args .payload))) (drop k (mainChecks (now
 passed-1 : (c : tie.Else1) → Passed (c .before .before) 1
 passed-1 c = passes start (le-ltb _ _ (c .if1 .left))
 
-is-other : (c : tie.After-is-reserved) → isOther (restartsOf (main (now (c .before .before .before .before .before .before .before .before .before .args .payload)) .kind)) ≡ c .before .before .before .before .are-other .result
-is-other c = sym (c .before .before .before .before .are-other .ensures ∙ ap isOther (c .before .before .before .before .before .restarts-of .ensures ∙ ap restartsOf (c .before .before .before .before .before .before .byte-at .ensures)))
+type-judged : (c : tie.After-is-reserved) → isNotCarried (restartsOf (main (now (c .before .before .before .before .before .before .before .before .before .args .payload)) .kind)) ≡ c .before .before .before .before .is-not-carried .result
+type-judged c = sym (c .before .before .before .before .is-not-carried .ensures ∙ ap isNotCarried (c .before .before .before .before .before .restarts-of .ensures ∙ ap restartsOf (c .before .before .before .before .before .before .byte-at .ensures)))
 
 passed-2 : (c : tie.Else2) → Passed (c .before .before .before .before .before .before .before .before .before .before) 2
-passed-2 c = passes (passed-1 (c .before .before .before .before .before .before .before .before)) (is-other (c .before) ∙ c .if2 .left)
+passed-2 c = passes (passed-1 (c .before .before .before .before .before .before .before .before)) (type-judged (c .before) ∙ c .if2 .left)
 
 passed-3 : (c : tie.Else3) → Passed (c .before .before .before .before .before .before .before .before .before .before .before) 3
 passed-3 c = passes (passed-2 (c .before)) (rw (← c .before .before .before .before .before .byte-at2 .ensures) (c .if3 .left))
 
-is-reserved : (c : tie.After-is-reserved) → isReserved (tableSource (main (now (c .before .before .before .before .before .before .before .before .before .args .payload)) .q)) ≡ c .is-reserved .result
-is-reserved c = sym (c .is-reserved .ensures ∙ ap isReserved (c .before .table-source .ensures ∙ ap tableSource (c .before .before .byte-at3 .ensures)))
+q-judged : (c : tie.After-is-reserved) → isReserved (tableSource (main (now (c .before .before .before .before .before .before .before .before .before .args .payload)) .q)) ≡ c .is-reserved .result
+q-judged c = sym (c .is-reserved .ensures ∙ ap isReserved (c .before .table-source .ensures ∙ ap tableSource (c .before .before .byte-at3 .ensures)))
 
 passed-4 : (c : tie.Else4) → Passed (c .before .before .before .before .before .before .before .before .before .before .before .before) 4
-passed-4 c = passes (passed-3 (c .before)) (is-reserved (c .before .before .before) ∙ c .if4 .left)
+passed-4 c = passes (passed-3 (c .before)) (q-judged (c .before .before .before) ∙ c .if4 .left)
 
 returns : tie.Need-returns
 returns c = sym (fails start (lt-ltb _ _ (c .if1 .taken)))
@@ -48,8 +48,8 @@ cast-restarts-of c = search needs
 restarts-of-requires : tie.Need-restarts-of-requires
 restarts-of-requires c κs = search needs
 
-are-other-requires : tie.Need-are-other-requires
-are-other-requires c κs = search needs
+is-not-carried-requires : tie.Need-is-not-carried-requires
+is-not-carried-requires c κs = search needs
 
 byte-at-requires-2 : tie.Need-byte-at-requires-2
 byte-at-requires-2 c κs = search needs
@@ -67,13 +67,13 @@ is-reserved-requires : tie.Need-is-reserved-requires
 is-reserved-requires c κs = search needs
 
 returns-2 : tie.Need-returns-2
-returns-2 c = sym (fails (passed-1 (c .before .before .before .before .before .before .before .before)) (is-other (c .before) ∙ c .if2 .taken))
+returns-2 c = sym (fails (passed-1 (c .before .before .before .before .before .before .before .before)) (type-judged (c .before) ∙ c .if2 .taken))
 
 returns-3 : tie.Need-returns-3
 returns-3 c = sym (fails (passed-2 (c .before)) (rw (← c .before .before .before .before .before .byte-at2 .ensures) (c .if3 .taken)))
 
 returns-4 : tie.Need-returns-4
-returns-4 c = sym (fails (passed-3 (c .before)) (is-reserved (c .before .before .before) ∙ c .if4 .taken))
+returns-4 c = sym (fails (passed-3 (c .before)) (q-judged (c .before .before .before) ∙ c .if4 .taken))
 
 byte-at-requires-4 : tie.Need-byte-at-requires-4
 byte-at-requires-4 c κs = search needs
@@ -102,7 +102,7 @@ judge-main-spec =
     byte-at-requires
     cast-restarts-of
     restarts-of-requires
-    are-other-requires
+    is-not-carried-requires
     byte-at-requires-2
     byte-at-requires-3
     cast-table-source

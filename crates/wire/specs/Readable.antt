@@ -3,7 +3,7 @@ use Prim.Native.Nat.{ℕ, _+_, _-_, _^_, _≤_, _<_}
 use mathlib.Core.Bool.{true, false}
 use mathlib.Core.List.{List, _++_, append-nil}
 use mathlib.Core.Logic.{_⊎_, inl, inr, ⊎-elim}
-use mathlib.Core.Path.{_≡_, refl, sym, ap, _∙_}
+use mathlib.Core.Path.{_≡_, refl, sym}
 use native.Mathlib.Omega.{arith}
 use borrow.Author.Tests.{eqb-true, eqb-false}
 use lib.Dec.{eqb}
@@ -17,12 +17,12 @@ use Rattle.replies.specs.Checks.{judged, both-passed}
 use Rattle.replies.specs.declared.Judged.{Judged}
 use Rattle.replies.specs.declared.Judged.the-variants.{Passed, Refused}
 use Rattle.wire.specs.Field.{Bytes, byte-small, field-small}
-use Rattle.wire.specs.Kind.{restartsOf, isOther, isWith}
+use Rattle.wire.specs.Kind.{restartsOf, isNotCarried, arePresent}
 use Rattle.wire.specs.Main.{main, mainEnd}
 use Rattle.wire.specs.Passed.{RtpPassed, JpegPassed, rtp-passed, jpeg-passed}
-use Rattle.wire.specs.Reading.{longest, rtpChecks, jpegChecks, checks, headerOf, said, answered, reading, partOf, scanIn, tablesIn}
+use Rattle.wire.specs.Reading.{rtpChecks, jpegChecks, checks, headerOf, said, answered, reading, partOf, scanIn, tablesIn}
 use Rattle.wire.specs.Restart.{interval, interval-read, interval-none}
-use Rattle.wire.specs.Rtp.{payload, payloadLength, length-payload, payload-part, payload-from, payload-inside, payload-bytes, marker-small}
+use Rattle.wire.specs.Rtp.{longest, payload, payloadLength, length-payload, payload-part, payload-from, payload-inside, payload-bytes, marker-small}
 use Rattle.wire.specs.TableSource.{tableSource, isReserved, isInBand, isAlwaysBrought}
 use Rattle.wire.specs.Tables.{hasTableHeader, tablesAt, tablesLength, scanAt, tables, isZero, Come, none-or-come, always-come}
 use Rattle.wire.specs.declared.Header.{Header}
@@ -31,19 +31,19 @@ use Rattle.wire.specs.declared.Reading.the-variants as Answer
 
 -- Header fields such as the reader can give.
 pub record Lawful (h : Header) : Type 0 where
-  pub kind : isOther (restartsOf (h .kind)) ≡ false
+  pub kind : isNotCarried (restartsOf (h .kind)) ≡ false
   pub q : isReserved (tableSource (h .q)) ≡ false
   pub width : Between 1 255 (h .width)
   pub height : Between 1 255 (h .height)
-  pub interval : isWith (restartsOf (h .kind)) ≡ true → Between 1 65535 (h .interval)
-  pub no-interval : isWith (restartsOf (h .kind)) ≡ false → h .interval ≡ 0
+  pub interval : arePresent (restartsOf (h .kind)) ≡ true → Between 1 65535 (h .interval)
+  pub no-interval : arePresent (restartsOf (h .kind)) ≡ false → h .interval ≡ 0
 
--- Tables that a packet brings: it is the first of its picture, and they are 128 bytes in it, none of them 0.
+-- Tables that a packet brings: it is the first of its picture, they lie inside the packet, and none of the 128 is 0.
 pub record Brought (p : List ℕ) (s : Packet) : Type 0 where
   pub first : s .offset ≡ 0
   pub in-band : isInBand (tableSource (s .header .q)) ≡ true
-  pub inside : s .tables .at + 128 ≤ length p
-  pub bytes : tablesIn p s ≡ take 128 (drop (s .tables .at) p)
+  pub some : s .tables .length ≡ 0 → ⊥
+  pub inside : s .tables .at + s .tables .length ≤ length p
   pub entries : Each (Between 1 255) (tablesIn p s)
 
 pub record Readable (p : List ℕ) (s : Packet) : Type 0 where
@@ -88,34 +88,35 @@ module _ (b : List ℕ) (bytes : Bytes b) (jpeg : JpegPassed b) where
 full : (l : List ℕ) → length l ≡ 128 → take 128 l ++ replicate (128 - length l) 0 ≡ l
 full l e = rw (e, take-all 128 l (omega arith)) (append-nil l)
 
-module _ {source : ℕ} (p : List ℕ) (bytes : Bytes p) (rtp : RtpPassed source p) (jpeg : JpegPassed (payload p)) where
+module _ {source : ℕ} (p : List ℕ) (rtp : RtpPassed source p) (jpeg : JpegPassed (payload p)) where
   long : length (payload p) ≡ payloadLength p
-  long = length-payload p (rtp .headers) (rtp .padding)
+  long = length-payload p (rtp .headers) (rtp .fits)
 
   -- the scan data and the tables lie in the packet as they lie in what is left of it
-  pub scan-there : scanIn p (said p) ≡ drop (scanAt (payload p)) (payload p)
+  scan-there : scanIn p (said p) ≡ drop (scanAt (payload p)) (payload p)
   unfolding said
   scan-there = rw (long, payload-from p (scanAt (payload p)))
 
-  tables-there : partOf p (said p .tables) ≡ tables (payload p)
+  part-there : partOf p (said p .tables) ≡ tables (payload p)
   unfolding said scanAt
-  tables-there = sym (payload-part p (tablesLength (payload p)) (tablesAt (payload p)) (omega (arith, long, jpeg .scan)))
+  part-there = sym (payload-part p (tablesLength (payload p)) (tablesAt (payload p)) (omega (arith, long, jpeg .scan)))
+
+  tables-inside : said p .tables .at + said p .tables .length ≤ length p
+  unfolding said scanAt
+  tables-inside = omega (arith, long, jpeg .scan, payload-inside p (rtp .headers) (rtp .fits))
 
   module _ (come : Come (payload p)) where
-    tables-inside : said p .tables .at + 128 ≤ length p
-    unfolding said scanAt
-    tables-inside = omega (arith, long, jpeg .scan, come .long, payload-inside p (rtp .headers) (rtp .padding))
-
     tables-long : length (tables (payload p)) ≡ 128
     unfolding scanAt
     tables-long = simp (length-take, length-drop) (omega (arith, jpeg .scan, come .long))
 
-    tables-are : tablesIn p (said p) ≡ tables (payload p)
+    tables-there : tablesIn p (said p) ≡ tables (payload p)
     unfolding tablesIn
-    tables-are = rw tables-there (full (tables (payload p)) tables-long)
+    tables-there = rw part-there (full (tables (payload p)) tables-long)
 
-    entries : Each (Between 1 255) (tables (payload p))
-    entries =
+  module _ (bytes : Bytes p) where
+    entries : Come (payload p) → Each (Between 1 255) (tables (payload p))
+    entries come =
         each-weaken (λ (v : ℕ). (v < 256) × (isZero v ≡ false)) (Between 1 255)
         (λ v h. let some = eqb-false v 0 (h .1) in (omega arith, omega arith))
         (tables (payload p))
@@ -124,42 +125,51 @@ module _ {source : ℕ} (p : List ℕ) (bytes : Bytes p) (rtp : RtpPassed source
         in-bytes : Bytes (tables (payload p))
         in-bytes = each-take (λ (v : ℕ). v < 256) (tablesLength (payload p)) (drop (tablesAt (payload p)) (payload p)) (each-drop (λ (v : ℕ). v < 256) (tablesAt (payload p)) (payload p) (payload-bytes p bytes))
 
-    brought : Brought p (said p)
+    brought : Come (payload p) → Brought p (said p)
     unfolding said hasTableHeader
-    brought =
+    brought come =
         let header = and-true (eqb (main (payload p) .offset) 0) (isInBand (tableSource (main (payload p) .q))) (come .header) in
         record {
           first = eqb-true (main (payload p) .offset) 0 (header .0);
           in-band = header .1;
+          some = λ none. omega (arith, come .long);
           inside = tables-inside;
-          bytes = tables-are ∙ sym tables-there ∙ ap (λ (n : ℕ). take n (drop (said p .tables .at) p)) (come .long);
-          entries = rw tables-are entries;
+          entries = rw (tables-there come) (entries come);
         }
 
-  none-or-brought : (said p .tables .length ≡ 0) ⊎ Brought p (said p)
-  unfolding said
-  none-or-brought = ⊎-elim (λ none. inl none) (λ come. inr (brought come)) (none-or-come (payload p) (jpeg .tables))
+    none-or-brought : (said p .tables .length ≡ 0) ⊎ Brought p (said p)
+    unfolding said
+    none-or-brought = ⊎-elim (λ none. inl none) (λ come. inr (brought come)) (none-or-come (payload p) (jpeg .tables))
 
-  always-brought : said p .offset ≡ 0 → isAlwaysBrought (tableSource (said p .header .q)) ≡ true → Brought p (said p)
-  unfolding said
-  always-brought first always = brought (always-come (payload p) (jpeg .tables) first always)
+    always-brought : said p .offset ≡ 0 → isAlwaysBrought (tableSource (said p .header .q)) ≡ true → Brought p (said p)
+    unfolding said
+    always-brought first always = brought (always-come (payload p) (jpeg .tables) first always)
 
-  readable : Readable p (said p)
-  unfolding said
-  readable = record {
-    short = rtp .short;
-    marker = marker-small p bytes;
-    time = omega (arith, field-small p 4 4 bytes);
-    offset = omega (arith, field-small (payload p) 1 3 (payload-bytes p bytes));
-    header = lawful (payload p) (payload-bytes p bytes) jpeg;
-    tables = none-or-brought;
-    always = always-brought;
-    scan = omega (arith, jpeg .scan);
-    inside = omega (arith, long, jpeg .scan, payload-inside p (rtp .headers) (rtp .padding));
-  }
+    readable : Readable p (said p)
+    unfolding said
+    readable = record {
+      short = rtp .short;
+      marker = marker-small p bytes;
+      time = omega (arith, field-small p 4 4 bytes);
+      offset = omega (arith, field-small (payload p) 1 3 (payload-bytes p bytes));
+      header = lawful (payload p) (payload-bytes p bytes) jpeg;
+      tables = none-or-brought;
+      always = always-brought;
+      scan = omega (arith, jpeg .scan);
+      inside = omega (arith, long, jpeg .scan, payload-inside p (rtp .headers) (rtp .fits));
+    }
 
--- The law for whoever reads packets.
-pub read-packet : (source : ℕ) (p : List ℕ) (s : Packet) → Bytes p → reading source p ≡ Answer.Said s → Readable p s
-read-packet source p s bytes e =
-    let t = read-passes source p s e in
-    rw (t .says) (readable p bytes (t .rtp) (t .jpeg))
+-- The laws for whoever reads packets: what is known of one, its scan data, and the tables that it brings.
+module _ (source : ℕ) (p : List ℕ) (s : Packet) (read : reading source p ≡ Answer.Said s) where
+  pub read-packet : Bytes p → Readable p s
+  read-packet bytes = let t = read-passes source p s read in rw (t .says) (readable p (t .rtp) (t .jpeg) bytes)
+
+  pub read-scan : scanIn p s ≡ drop (scanAt (payload p)) (payload p)
+  read-scan = let t = read-passes source p s read in rw (t .says) (scan-there p (t .rtp) (t .jpeg))
+
+  pub read-tables : (s .tables .length ≡ 0 → ⊥) → tablesIn p s ≡ tables (payload p)
+  unfolding said
+  read-tables some =
+      let t = read-passes source p s read in
+      let come = none-or-come (payload p) (t .jpeg .tables) in
+      rw (t .says) (⊎-elim (λ none. absurd (some (rw (t .says) none))) (λ c. tables-there p (t .rtp) (t .jpeg) c) come)
