@@ -136,7 +136,8 @@ something-behind source a some =
     let same = same-dropped (a .headers) (a .padding some) in
     cc (same-checks (a .headers) same (a .payloads some) source, same-said (a .headers) same (a .payloads some))
 
--- Present nothing behind the headers, five checks go by the fixed header, and the three behind them, of which the last fails, have one reply.
+-- With nothing behind the RTP headers the payload is empty, so the eighth check fails. The sixth, the seventh and the eighth have one
+-- reply, so it does not matter which of them answers, and the first five go by the fixed header alone.
 payload-empty : (p : List ℕ) → length p ≤ headersEnd p → length (payload p) ≡ 0
 unfolding payload
 payload-empty p h = simp (length-take, length-drop) (omega arith)
