@@ -1,6 +1,7 @@
 // The JPEG headers at the front of a payload (RFC 2435).
 ghost use mathlib.Core.Path.{_≡_};
 ghost use Rattle.replies.specs.Checks.{judged};
+ghost use Rattle.wire.specs.Main.{main};
 ghost use Rattle.wire.specs.Reading.{mainChecks, jpegChecks, headerOf};
 use crate::Header;
 use crate::field::byte_at;
@@ -37,9 +38,9 @@ fn judge_main(payload: &[u8]) -> Judged
         return Judged::Refused(TOO_SHORT);
     }
     // what is asked of the fields first, so that the checks stand in their order below
-    let other_type = restarts_of(byte_at(payload, 4) as u32).is_not_carried();
+    let other_type = restarts_of(kind_of(payload)).is_not_carried();
     let type_specific = byte_at(payload, 0) != 0;
-    let reserved_q = table_source(byte_at(payload, 5) as u32).is_reserved();
+    let reserved_q = table_source(q_of(payload)).is_reserved();
     if other_type {
         return Judged::Refused(OTHER_TYPE);
     }
@@ -58,12 +59,24 @@ fn judge_main(payload: &[u8]) -> Judged
     Judged::Passed
 }
 
+pub(crate) fn kind_of(payload: &[u8]) -> u32
+    ensures { λ r. ⌜ r ≡ main (now (payload .entry)) .kind ⌝ }
+{
+    byte_at(payload, 4) as u32
+}
+
+pub(crate) fn q_of(payload: &[u8]) -> u32
+    ensures { λ r. ⌜ r ≡ main (now (payload .entry)) .q ⌝ }
+{
+    byte_at(payload, 5) as u32
+}
+
 pub(crate) fn header(payload: &[u8]) -> Header
     ensures { λ r. ⌜ r ≡ headerOf (now (payload .entry)) ⌝ }
 {
     Header {
-        kind: byte_at(payload, 4) as u32,
-        q: byte_at(payload, 5) as u32,
+        kind: kind_of(payload),
+        q: q_of(payload),
         width: byte_at(payload, 6) as u32,
         height: byte_at(payload, 7) as u32,
         interval: interval(payload),

@@ -3,8 +3,8 @@ ghost use mathlib.Core.Path.{_≡_};
 ghost use Rattle.replies.specs.Checks.{judged};
 ghost use Rattle.wire.specs.Reading.{restartChecks};
 ghost use Rattle.wire.specs.Restart as Restart;
-use crate::field::byte_at;
 use crate::field::u16_at;
+use crate::jpeg::kind_of;
 use crate::restarts_of;
 use replies::INTERVAL_ZERO;
 use replies::Judged;
@@ -28,7 +28,7 @@ pub(crate) fn judge_restart(payload: &[u8]) -> Judged
 fn has_restart(payload: &[u8]) -> bool
     ensures { λ r. ⌜ r ≡ Restart.hasRestart (now (payload .entry)) ⌝ }
 {
-    restarts_of(byte_at(payload, 4) as u32).are_present()
+    restarts_of(kind_of(payload)).are_present()
 }
 
 pub(crate) fn interval(payload: &[u8]) -> u32

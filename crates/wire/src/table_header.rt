@@ -8,6 +8,7 @@ ghost use Rattle.wire.specs.Tables as Tables;
 use crate::field::byte_at;
 use crate::field::u16_at;
 use crate::field::u24_at;
+use crate::jpeg::q_of;
 use crate::restart::restart_end;
 use crate::table_source;
 use replies::Judged;
@@ -70,13 +71,13 @@ fn has_table_header(payload: &[u8]) -> bool
     if u24_at(payload, 1) != 0 {
         return false;
     }
-    table_source(byte_at(payload, 5) as u32).is_in_band()
+    table_source(q_of(payload)).is_in_band()
 }
 
 fn always_brought(payload: &[u8]) -> bool
     ensures { λ r. ⌜ r ≡ Tables.alwaysBrought (now (payload .entry)) ⌝ }
 {
-    table_source(byte_at(payload, 5) as u32).is_always_brought()
+    table_source(q_of(payload)).is_always_brought()
 }
 
 pub(crate) fn tables_length(payload: &[u8]) -> u16

@@ -22,16 +22,16 @@ passed-1 : (c : tie.Else1) → Passed (c .before .before) 1
 passed-1 c = passes start (le-ltb _ _ (c .if1 .left))
 
 type-judged : (c : tie.After-is-reserved) → isNotCarried (restartsOf (main (now (c .before .before .before .before .before .before .before .before .before .args .payload)) .kind)) ≡ c .before .before .before .before .is-not-carried .result
-type-judged c = sym (c .before .before .before .before .is-not-carried .ensures ∙ ap isNotCarried (c .before .before .before .before .before .restarts-of .ensures ∙ ap restartsOf (c .before .before .before .before .before .before .byte-at .ensures)))
+type-judged c = sym (c .before .before .before .before .is-not-carried .ensures ∙ ap isNotCarried (c .before .before .before .before .before .restarts-of .ensures ∙ ap restartsOf (c .before .before .before .before .before .before .kind-of .ensures)))
 
 passed-2 : (c : tie.Else2) → Passed (c .before .before .before .before .before .before .before .before .before .before) 2
 passed-2 c = passes (passed-1 (c .before .before .before .before .before .before .before .before)) (type-judged (c .before) ∙ c .if2 .left)
 
 passed-3 : (c : tie.Else3) → Passed (c .before .before .before .before .before .before .before .before .before .before .before) 3
-passed-3 c = passes (passed-2 (c .before)) (rw (← c .before .before .before .before .before .byte-at2 .ensures) (c .if3 .left))
+passed-3 c = passes (passed-2 (c .before)) (rw (← c .before .before .before .before .before .byte-at .ensures) (c .if3 .left))
 
 q-judged : (c : tie.After-is-reserved) → isReserved (tableSource (main (now (c .before .before .before .before .before .before .before .before .before .args .payload)) .q)) ≡ c .is-reserved .result
-q-judged c = sym (c .is-reserved .ensures ∙ ap isReserved (c .before .table-source .ensures ∙ ap tableSource (c .before .before .byte-at3 .ensures)))
+q-judged c = sym (c .is-reserved .ensures ∙ ap isReserved (c .before .table-source .ensures ∙ ap tableSource (c .before .before .q-of .ensures)))
 
 passed-4 : (c : tie.Else4) → Passed (c .before .before .before .before .before .before .before .before .before .before .before .before) 4
 passed-4 c = passes (passed-3 (c .before)) (q-judged (c .before .before .before) ∙ c .if4 .left)
@@ -39,11 +39,8 @@ passed-4 c = passes (passed-3 (c .before)) (q-judged (c .before .before .before)
 returns : tie.Need-returns
 returns c = sym (fails start (lt-ltb _ _ (c .if1 .taken)))
 
-byte-at-requires : tie.Need-byte-at-requires
-byte-at-requires c κs = search needs
-
-cast-restarts-of : tie.Need-cast-restarts-of
-cast-restarts-of c = search needs
+kind-of-requires : tie.Need-kind-of-requires
+kind-of-requires c κs = search needs
 
 restarts-of-requires : tie.Need-restarts-of-requires
 restarts-of-requires c κs = search needs
@@ -51,14 +48,11 @@ restarts-of-requires c κs = search needs
 is-not-carried-requires : tie.Need-is-not-carried-requires
 is-not-carried-requires c κs = search needs
 
-byte-at-requires-2 : tie.Need-byte-at-requires-2
-byte-at-requires-2 c κs = search needs
+byte-at-requires : tie.Need-byte-at-requires
+byte-at-requires c κs = search needs
 
-byte-at-requires-3 : tie.Need-byte-at-requires-3
-byte-at-requires-3 c κs = search needs
-
-cast-table-source : tie.Need-cast-table-source
-cast-table-source c = search needs
+q-of-requires : tie.Need-q-of-requires
+q-of-requires c κs = search needs
 
 table-source-requires : tie.Need-table-source-requires
 table-source-requires c κs = search needs
@@ -70,19 +64,19 @@ returns-2 : tie.Need-returns-2
 returns-2 c = sym (fails (passed-1 (c .before .before .before .before .before .before .before .before)) (type-judged (c .before) ∙ c .if2 .taken))
 
 returns-3 : tie.Need-returns-3
-returns-3 c = sym (fails (passed-2 (c .before)) (rw (← c .before .before .before .before .before .byte-at2 .ensures) (c .if3 .taken)))
+returns-3 c = sym (fails (passed-2 (c .before)) (rw (← c .before .before .before .before .before .byte-at .ensures) (c .if3 .taken)))
 
 returns-4 : tie.Need-returns-4
 returns-4 c = sym (fails (passed-3 (c .before)) (q-judged (c .before .before .before) ∙ c .if4 .taken))
 
-byte-at-requires-4 : tie.Need-byte-at-requires-4
-byte-at-requires-4 c κs = search needs
+byte-at-requires-2 : tie.Need-byte-at-requires-2
+byte-at-requires-2 c κs = search needs
 
 returns-5 : tie.Need-returns-5
 returns-5 c = sym (fails (passed-4 (c .before .before)) (rw (eq-eqb (main (now (c .before .before .before .before .before .before .before .before .before .before .before .before .before .before .args .payload)) .width) 0 (omega arith))))
 
-byte-at-requires-5 : tie.Need-byte-at-requires-5
-byte-at-requires-5 c κs = search needs
+byte-at-requires-3 : tie.Need-byte-at-requires-3
+byte-at-requires-3 c κs = search needs
 
 returns-6 : tie.Need-returns-6
 returns-6 c =
@@ -99,20 +93,18 @@ judge-main-spec =
     tie.close
     (tie.spec
     returns
-    byte-at-requires
-    cast-restarts-of
+    kind-of-requires
     restarts-of-requires
     is-not-carried-requires
-    byte-at-requires-2
-    byte-at-requires-3
-    cast-table-source
+    byte-at-requires
+    q-of-requires
     table-source-requires
     is-reserved-requires
     returns-2
     returns-3
     returns-4
-    byte-at-requires-4
+    byte-at-requires-2
     returns-5
-    byte-at-requires-5
+    byte-at-requires-3
     returns-6
     returns-7)

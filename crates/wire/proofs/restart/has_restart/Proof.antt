@@ -5,11 +5,8 @@ use Rattle.wire.specs.Kind.{restartsOf, arePresent}
 use Rattle.wire.proofs.restart.has_restart.Statement.{statement}
 use Rattle.wire.proofs.restart.has_restart.Tie as tie
 
-byte-at-requires : tie.Need-byte-at-requires
-byte-at-requires c κs = search needs
-
-cast-restarts-of : tie.Need-cast-restarts-of
-cast-restarts-of c = search needs
+kind-of-requires : tie.Need-kind-of-requires
+kind-of-requires c κs = search needs
 
 restarts-of-requires : tie.Need-restarts-of-requires
 restarts-of-requires c κs = search needs
@@ -18,9 +15,8 @@ are-present-requires : tie.Need-are-present-requires
 are-present-requires c κs = search needs
 
 returns : tie.Need-returns
-returns c = c .are-present .ensures ∙ ap arePresent (c .before .restarts-of .ensures ∙ ap restartsOf (c .before .before .byte-at .ensures))
+returns c = c .are-present .ensures ∙ ap arePresent (c .before .restarts-of .ensures ∙ ap restartsOf (c .before .before .kind-of .ensures))
 
 pub has-restart-spec : {M : Type 1} → statement M
 has-restart-spec =
-    tie.close
-    (tie.spec byte-at-requires cast-restarts-of restarts-of-requires are-present-requires returns)
+    tie.close (tie.spec kind-of-requires restarts-of-requires are-present-requires returns)

@@ -17,11 +17,8 @@ returns : tie.Need-returns
 unfolding hasTableHeader
 returns c = rw (ne-eqb (main (now (c .before .before .before .args .payload)) .offset) 0 (λ e. omega arith))
 
-byte-at-requires : tie.Need-byte-at-requires
-byte-at-requires c κs = search needs
-
-cast-table-source : tie.Need-cast-table-source
-cast-table-source c = search needs
+q-of-requires : tie.Need-q-of-requires
+q-of-requires c κs = search needs
 
 table-source-requires : tie.Need-table-source-requires
 table-source-requires c κs = search needs
@@ -31,7 +28,7 @@ is-in-band-requires c κs = search needs
 
 returns-2 : tie.Need-returns-2
 unfolding hasTableHeader
-returns-2 c = rw (eq-eqb _ 0 (sym (c .before .before .before .before .u24-at .ensures) ∙ c .before .before .before .if1 .left)) (c .is-in-band .ensures ∙ ap isInBand (c .before .table-source .ensures ∙ ap tableSource (c .before .before .byte-at .ensures)))
+returns-2 c = rw (eq-eqb _ 0 (sym (c .before .before .before .before .u24-at .ensures) ∙ c .before .before .before .if1 .left)) (c .is-in-band .ensures ∙ ap isInBand (c .before .table-source .ensures ∙ ap tableSource (c .before .before .q-of .ensures)))
 
 pub has-table-header-spec : {M : Type 1} → statement M
 has-table-header-spec =
@@ -39,8 +36,7 @@ has-table-header-spec =
     (tie.spec
     u24-at-requires
     returns
-    byte-at-requires
-    cast-table-source
+    q-of-requires
     table-source-requires
     is-in-band-requires
     returns-2)
