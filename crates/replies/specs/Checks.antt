@@ -3,6 +3,7 @@ use Prim.Native.Nat.{ℕ}
 use mathlib.Core.Bool.{Bool, true, false}
 use mathlib.Core.List.{List, [], _∷_, _++_}
 use mathlib.Core.Path.{_≡_, refl, sym, _∙_}
+use lib.ListN.{drop}
 use native.Mathlib.Omega.{arith}
 use Rattle.laws.specs.Each.{Each}
 use Rattle.replies.specs.declared.Judged.{Judged}
@@ -24,6 +25,10 @@ judged ((n when false) ∷ checks) = judged checks
 -- all that is left to judge of some checks, since those in front have passed
 pub record Past (checks left : List Check) : Type 0 where
   pub same : judged checks ≡ judged left
+
+-- the first k of some checks have passed
+abbrev pub PastFirst : ℕ → List Check → Type 0
+PastFirst k checks = Past checks (drop k checks)
 
 pub start : {checks : List Check} → Past checks checks
 start = record { same = refl }

@@ -1,13 +1,13 @@
 -- What is known of a packet that is read. Assumes nothing.
-use Prim.Native.Nat.{ℕ, _+_, _-_, _^_, _≤_, _<_}
+use Prim.Native.Nat.{ℕ, _+_, _^_, _≤_, _<_}
 use mathlib.Core.Bool.{true, false}
-use mathlib.Core.List.{List, _++_, append-nil}
+use mathlib.Core.List.{List, append-nil}
 use mathlib.Core.Logic.{_⊎_, inl, inr, ⊎-elim}
 use mathlib.Core.Path.{_≡_, refl, sym}
 use native.Mathlib.Omega.{arith}
 use borrow.Author.Tests.{eqb-true, eqb-false}
 use lib.Dec.{eqb}
-use lib.ListN.{length, take, drop, replicate, length-take, length-drop}
+use lib.ListN.{length, drop, length-take, length-drop}
 use lib.Seq.{take-all}
 use Rattle.laws.specs.Each.{Each, each-take, each-drop, each-weaken, each-both}
 use Rattle.laws.specs.Any.{any-none}
@@ -20,7 +20,7 @@ use Rattle.wire.specs.Field.{Bytes, byte-small, field-small}
 use Rattle.wire.specs.Kind.{restartsOf, isNotCarried, arePresent}
 use Rattle.wire.specs.Main.{main, mainEnd}
 use Rattle.wire.specs.Passed.{RtpPassed, JpegPassed, rtp-passed, jpeg-passed}
-use Rattle.wire.specs.Reading.{rtpChecks, jpegChecks, checks, headerOf, said, answered, reading, partOf, scanIn, tablesIn}
+use Rattle.wire.specs.Reading.{rtpChecks, jpegChecks, checks, headerOf, said, answered, reading, partOf, scanIn, filledUp, tablesIn}
 use Rattle.wire.specs.Restart.{interval, interval-read, interval-none}
 use Rattle.wire.specs.Rtp.{longest, payload, payloadLength, length-payload, payload-part, payload-from, payload-inside, payload-bytes, marker-small}
 use Rattle.wire.specs.TableSource.{tableSource, isReserved, isInBand, isAlwaysBrought}
@@ -46,6 +46,7 @@ pub record Brought (p : List ℕ) (s : Packet) : Type 0 where
   pub inside : s .tables .at + s .tables .length ≤ length p
   pub entries : Each (Between 1 255) (tablesIn p s)
 
+-- A packet p that is read, and what it says, s.
 pub record Readable (p : List ℕ) (s : Packet) : Type 0 where
   pub short : length p ≤ longest
   pub marker : s .marker ≤ 1
@@ -85,7 +86,7 @@ module _ (b : List ℕ) (bytes : Bytes b) (jpeg : JpegPassed b) where
     no-interval = λ e. interval-none b e;
   }
 
-full : (l : List ℕ) → length l ≡ 128 → take 128 l ++ replicate (128 - length l) 0 ≡ l
+full : (l : List ℕ) → length l ≡ 128 → filledUp l ≡ l
 full l e = rw (e, take-all 128 l (omega arith)) (append-nil l)
 
 module _ {source : ℕ} (p : List ℕ) (rtp : RtpPassed source p) (jpeg : JpegPassed (payload p)) where

@@ -62,6 +62,7 @@ tableChecks b =
 abbrev pub jpegChecks : List ℕ → List Check
 jpegChecks b = mainChecks b ++ restartChecks b ++ tableChecks b
 
+-- All of them, the JPEG headers' in what the RTP headers and the padding leave.
 abbrev pub checks : ℕ → List ℕ → List Check
 checks source p = rtpChecks source p ++ jpegChecks (payload p)
 
@@ -96,12 +97,15 @@ reading source p = answered (judged (checks source p)) (said p)
 abbrev pub partOf : List ℕ → Part → List ℕ
 partOf p r = take (r .length) (drop (r .at) p)
 
--- The scan data of a packet, and the tables that it brings, always 128 bytes: filled up with 0.
 abbrev pub scanIn : List ℕ → Packet → List ℕ
 scanIn p s = partOf p (s .scan)
 
+-- The tables that a packet brings, always 128 bytes: filled up with 0.
+abbrev pub filledUp : List ℕ → List ℕ
+filledUp l = take 128 l ++ replicate (128 - length l) 0
+
 unfoldable pub tablesIn : List ℕ → Packet → List ℕ
-tablesIn p s = take 128 (partOf p (s .tables)) ++ replicate (128 - length (partOf p (s .tables))) 0
+tablesIn p s = filledUp (partOf p (s .tables))
 
 -- The outcomes of `read`, of `scan` and of `tables`, the last two by the bytes that they give.
 abbrev pub Reads : ℕ → List ℕ → Reading → Type 0

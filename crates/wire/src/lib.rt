@@ -5,12 +5,11 @@ mod restart;
 mod rtp;
 mod table_header;
 
-ghost use Prim.Native.Nat.{_-_, _≤_};
-ghost use mathlib.Core.List.{_++_};
+ghost use Prim.Native.Nat.{_≤_};
 ghost use mathlib.Core.Path.{_≡_};
-ghost use lib.ListN.{length, take, replicate};
+ghost use lib.ListN.{length};
 ghost use Rattle.wire.specs.Kind.{TellsRestarts, arePresent, isNotCarried};
-ghost use Rattle.wire.specs.Reading.{Reads, GivesScan, GivesTables, said, partOf};
+ghost use Rattle.wire.specs.Reading.{Reads, GivesScan, GivesTables, said, partOf, filledUp};
 ghost use Rattle.wire.specs.Rtp.{Rest};
 ghost use Rattle.wire.specs.Tables.{scanAt};
 ghost use Rattle.wire.specs.TableSource.{TellsSource, isInBand, isAlwaysBrought, isReserved};
@@ -141,7 +140,7 @@ fn bytes_of(packet: &[u8], part: Part) -> &[u8]
 
 // 128 bytes: the first of these, and 0 where there are fewer.
 fn filled_up(bytes: &[u8]) -> [u8; 128]
-    ensures { λ r. ⌜ r ≡ take 128 (now (bytes .entry)) ++ replicate (128 - length (now (bytes .entry))) 0 ⌝ }
+    ensures { λ r. ⌜ r ≡ filledUp (now (bytes .entry)) ⌝ }
 {
     let mut filled = [0u8; 128];
     let n = if bytes.len() < 128 { bytes.len() } else { 128 };

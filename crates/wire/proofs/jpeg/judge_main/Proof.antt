@@ -3,10 +3,9 @@ use borrow.Author.Needs.{needs}
 use borrow.Author.Tests.{lt-ltb, le-ltb, eq-eqb, ne-eqb}
 use Prim.Native.Nat.{ℕ}
 use denote.Ref.{now}
-use lib.ListN.{drop}
 use mathlib.Core.Path.{_≡_, sym, ap, _∙_}
 use native.Mathlib.Omega.{arith}
-use Rattle.replies.specs.Checks.{Past, start, passes, fails, none-left}
+use Rattle.replies.specs.Checks.{PastFirst, start, passes, fails, none-left}
 use Rattle.wire.specs.Kind.{restartsOf, isNotCarried}
 use Rattle.wire.specs.Main.{main}
 use Rattle.wire.specs.Reading.{mainChecks}
@@ -16,7 +15,7 @@ use Rattle.wire.proofs.jpeg.judge_main.Tie as tie
 
 -- the first k checks have passed
 abbrev Passed : tie.Start → ℕ → Type 0
-Passed s k = Past (mainChecks (now (s .args .payload))) (drop k (mainChecks (now (s .args .payload))))
+Passed s k = PastFirst k (mainChecks (now (s .args .payload)))
 
 passed-1 : (c : tie.Else1) → Passed (c .before .before) 1
 passed-1 c = passes start (le-ltb _ _ (c .if1 .left))

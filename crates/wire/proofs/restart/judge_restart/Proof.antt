@@ -2,17 +2,16 @@
 use borrow.Author.Needs.{needs}
 use borrow.Author.Tests.{lt-ltb, le-ltb, eq-eqb, ne-eqb, not-true, not-false}
 use denote.Ref.{now}
-use lib.ListN.{drop}
 use mathlib.Core.Bool.{true, false}
 use mathlib.Core.Path.{_≡_, sym, _∙_}
 use native.Mathlib.Omega.{arith}
-use Rattle.replies.specs.Checks.{Past, start, passes, fails, none-left}
+use Rattle.replies.specs.Checks.{PastFirst, start, passes, fails, none-left}
 use Rattle.wire.specs.Reading.{restartChecks}
 use Rattle.wire.specs.Restart.{hasRestart, interval}
 use Rattle.wire.proofs.restart.judge_restart.Statement.{statement}
 use Rattle.wire.proofs.restart.judge_restart.Tie as tie
 
-passed-1 : (c : tie.Else1) → Past (restartChecks (now (c .before .before .before .args .payload))) (drop 1 (restartChecks (now (c .before .before .before .args .payload))))
+passed-1 : (c : tie.Else1) → PastFirst 1 (restartChecks (now (c .before .before .before .args .payload)))
 passed-1 c = passes start (le-ltb _ _ (rw (c .before .restart-end .ensures) at (c .if1 .left)))
 
 restart-end-requires : tie.Need-restart-end-requires

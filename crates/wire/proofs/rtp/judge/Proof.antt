@@ -3,11 +3,10 @@ use borrow.Author.Needs.{needs}
 use borrow.Author.Tests.{lt-ltb, le-ltb}
 use Prim.Native.Nat.{ℕ}
 use denote.Ref.{now}
-use lib.ListN.{drop}
 use mathlib.Core.List.{List}
 use mathlib.Core.Path.{sym, _∙_}
 use Rattle.laws.specs.Truth.{same, other}
-use Rattle.replies.specs.Checks.{Check, Past, start, passes, fails, none-left}
+use Rattle.replies.specs.Checks.{Check, PastFirst, start, passes, fails, none-left}
 use Rattle.wire.specs.Reading.{rtpChecks}
 use Rattle.wire.proofs.rtp.judge.Statement.{statement}
 use Rattle.wire.proofs.rtp.judge.Tie as tie
@@ -17,7 +16,7 @@ checks s = rtpChecks (s .args .source) (now (s .args .packet))
 
 -- the first k of them have passed
 abbrev Passed : tie.Start → (k : ℕ) → Type 0
-Passed s k = Past (checks s) (drop k (checks s))
+Passed s k = PastFirst k (checks s)
 
 passed-1 : (c : tie.Else1) → Passed (c .before .before) 1
 passed-1 c = passes start (le-ltb _ _ (c .if1 .left))

@@ -3,11 +3,10 @@ use borrow.Author.Needs.{needs}
 use borrow.Author.Tests.{lt-ltb, le-ltb, eq-eqb, ne-eqb}
 use Prim.Native.Nat.{ℕ}
 use denote.Ref.{now}
-use lib.ListN.{drop}
 use mathlib.Core.Path.{sym, _∙_}
 use native.Mathlib.Nat.{add-sub-cancel-left}
 use native.Mathlib.Omega.{arith}
-use Rattle.replies.specs.Checks.{Past, start, passes, fails, none-left}
+use Rattle.replies.specs.Checks.{PastFirst, start, passes, fails, none-left}
 use Rattle.wire.specs.Reading.{tableChecks}
 use Rattle.wire.specs.Tables.{scanAt, tables-at-small}
 use lib.ListN.{length-take, length-drop}
@@ -16,7 +15,7 @@ use Rattle.wire.proofs.table_header.judge_tables.Tie as tie
 
 -- the first k checks have passed
 abbrev Passed : tie.Start → ℕ → Type 0
-Passed s k = Past (tableChecks (now (s .args .payload))) (drop k (tableChecks (now (s .args .payload))))
+Passed s k = PastFirst k (tableChecks (now (s .args .payload)))
 
 passed-1 : (c : tie.Else1) → Passed (c .before .before .before .before) 1
 unfolding scanAt
