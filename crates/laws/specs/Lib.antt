@@ -3,3 +3,5 @@ pub mod Within
 pub mod Each
 pub mod Any
 pub mod Lists
+pub mod Spelled
+pub mod Put

@@ -2,9 +2,9 @@
 use Prim.Native.Nat.{ℕ, _≤_, _<_}
 use mathlib.Core.Bool.{Bool, true, false, _&&_}
 use mathlib.Core.Path.{_≡_}
-use borrow.Author.Tests.{le-leb, lt-leb}
+use borrow.Author.Tests.{leb-true, le-leb, lt-leb}
 use lib.Dec.{leb}
-use Rattle.laws.specs.Truth.{and-false}
+use Rattle.laws.specs.Truth.{and-true, and-false}
 
 unfoldable pub within : ℕ → ℕ → ℕ → Bool
 within low high n = leb low n && leb n high
@@ -27,3 +27,7 @@ module _ (low high n : ℕ) where
   pub is-over : high < n → within low high n ≡ false
   unfolding within
   is-over h = rw (lt-leb n high h) (and-false (leb low n))
+
+  pub between : within low high n ≡ true → Between low high n
+  unfolding within
+  between e = let t = and-true (leb low n) (leb n high) e in (leb-true low n (t .0), leb-true n high (t .1))

@@ -8,12 +8,19 @@ use borrow.Author.Tests.{lt-ltb, le-ltb}
 use lib.Dec.{ltb}
 use lib.ListN.{length, drop}
 use Rattle.replies.specs.Reply
+use Rattle.replies.specs.declared.Judged.{Judged}
+use Rattle.replies.specs.declared.Judged.the-variants.{Passed, Refused}
 use Rattle.replies.specs.declared.Written.{Written}
 
 -- What such a call decides, the room in the output aside: to refuse with a number, or to write these bytes.
 pub data Decision : Type 0 where
   refuse : ℕ → Decision
   write : List ℕ → Decision
+
+-- Where checks decide.
+abbrev pub decided : Judged → List ℕ → Decision
+decided Passed bytes = write bytes
+decided (Refused n) bytes = refuse n
 
 -- Its last check, under a number of its own: the output is too short for exactly these bytes.
 abbrev pub fitted : ℕ → List ℕ → Decision → Decision

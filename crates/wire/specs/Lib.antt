@@ -5,6 +5,7 @@ pub mod TableSource
 pub mod Main
 pub mod Restart
 pub mod Tables
+pub mod Lawful
 pub mod Reading
 pub mod Passed
 pub mod Readable

@@ -17,26 +17,16 @@ use Rattle.replies.specs.Checks.{judged, both-passed}
 use Rattle.replies.specs.declared.Judged.{Judged}
 use Rattle.replies.specs.declared.Judged.the-variants.{Passed, Refused}
 use Rattle.wire.specs.Field.{Bytes, byte-small, field-small}
-use Rattle.wire.specs.Kind.{restartsOf, isNotCarried, arePresent}
+use Rattle.wire.specs.Lawful.{Lawful}
 use Rattle.wire.specs.Main.{main, mainEnd}
 use Rattle.wire.specs.Passed.{RtpPassed, JpegPassed, rtp-passed, jpeg-passed}
 use Rattle.wire.specs.Reading.{rtpChecks, jpegChecks, checks, headerOf, said, answered, reading, partOf, scanIn, filledUp, tablesIn}
 use Rattle.wire.specs.Restart.{interval, interval-read, interval-none}
 use Rattle.wire.specs.Rtp.{longest, payload, payloadLength, length-payload, payload-part, payload-from, payload-inside, payload-bytes, marker-small}
-use Rattle.wire.specs.TableSource.{tableSource, isReserved, isInBand, isAlwaysBrought}
+use Rattle.wire.specs.TableSource.{tableSource, isInBand, isAlwaysBrought}
 use Rattle.wire.specs.Tables.{hasTableHeader, tablesAt, tablesLength, scanAt, tables, isZero, Come, none-or-come, always-come}
-use Rattle.wire.specs.declared.Header.{Header}
 use Rattle.wire.specs.declared.Packet.{Packet}
 use Rattle.wire.specs.declared.Reading.the-variants as Answer
-
--- Header fields such as the reader can give.
-pub record Lawful (h : Header) : Type 0 where
-  pub kind : isNotCarried (restartsOf (h .kind)) ≡ false
-  pub q : isReserved (tableSource (h .q)) ≡ false
-  pub width : Between 1 255 (h .width)
-  pub height : Between 1 255 (h .height)
-  pub interval : arePresent (restartsOf (h .kind)) ≡ true → Between 1 65535 (h .interval)
-  pub no-interval : arePresent (restartsOf (h .kind)) ≡ false → h .interval ≡ 0
 
 -- Tables that a packet brings: it is the first of its picture, they lie inside the packet, and none of the 128 is 0.
 pub record Brought (p : List ℕ) (s : Packet) : Type 0 where

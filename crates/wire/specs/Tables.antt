@@ -7,7 +7,7 @@ use mathlib.Core.Path.{_≡_, sym, _∙_}
 use native.Mathlib.Omega.{arith}
 use borrow.Author.Tests.{eq-eqb, ne-eqb, eqb-true, eqb-false}
 use lib.Dec.{eqb}
-use lib.ListN.{take, drop}
+use lib.ListN.{length, take, drop}
 use Rattle.laws.specs.Any.{any}
 use Rattle.laws.specs.Truth.{split, never-both, and-false, and-truth, or-false}
 use Rattle.wire.specs.Field.{byte, field}
@@ -55,6 +55,14 @@ tableRuleBroken b =
     || not (eqb (tablesLength b) 0 || eqb (tablesLength b) 128)
     || alwaysBrought b && eqb (tablesLength b) 0
     || any isZero (tables b))
+
+-- Tables that may be sent: 128 bytes, none of them 0.
+unfoldable pub areFull : List ℕ → Bool
+areFull t = eqb (length t) 128 && not (any isZero t)
+
+-- The outcome of `are_full`.
+abbrev pub TellsFull : List ℕ → Bool → Type 0
+TellsFull t b = b ≡ areFull t
 
 -- ---- laws
 

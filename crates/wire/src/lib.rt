@@ -8,14 +8,17 @@ mod table_header;
 ghost use Prim.Native.Nat.{_≤_};
 ghost use mathlib.Core.Path.{_≡_};
 ghost use lib.ListN.{length};
+ghost use Rattle.laws.specs.Within.{within};
 ghost use Rattle.wire.specs.Kind.{TellsRestarts, arePresent, isNotCarried};
+ghost use Rattle.wire.specs.Lawful.{TellsLawful, hasInterval};
 ghost use Rattle.wire.specs.Reading.{Reads, GivesScan, GivesTables, said, partOf, filledUp};
 ghost use Rattle.wire.specs.Rtp.{Rest};
-ghost use Rattle.wire.specs.Tables.{scanAt};
+ghost use Rattle.wire.specs.Tables.{TellsFull, scanAt};
 ghost use Rattle.wire.specs.TableSource.{TellsSource, isInBand, isAlwaysBrought, isReserved};
 use crate::field::byte_at;
 use crate::field::u24_at;
 use crate::field::u32_at;
+use crate::table_header::has_zero;
 use crate::table_header::tables_at;
 use crate::table_header::tables_length;
 use replies::Judged;
@@ -150,6 +153,41 @@ fn filled_up(bytes: &[u8]) -> [u8; 128]
     filled
 }
 
+// Whether the reader can give these header fields.
+pub fn is_lawful(header: Header) -> bool
+    ensures { λ r. ⌜ TellsLawful header r ⌝ }
+{
+    if table_source(header.q).is_reserved() {
+        return false;
+    }
+    if !is_within(1, 255, header.width) {
+        return false;
+    }
+    if !is_within(1, 255, header.height) {
+        return false;
+    }
+    restarts_of(header.kind).have(header.interval)
+}
+
+fn is_within(low: u32, high: u32, n: u32) -> bool
+    ensures { λ r. ⌜ r ≡ within low high n ⌝ }
+{
+    if n < low {
+        return false;
+    }
+    n <= high
+}
+
+// Whether these are tables for a picture to bring: 128 bytes, none of them 0.
+pub fn are_full(tables: &[u8]) -> bool
+    ensures { λ r. ⌜ TellsFull (now (tables .entry)) r ⌝ }
+{
+    if tables.len() != 128 {
+        return false;
+    }
+    !has_zero(tables)
+}
+
 pub fn restarts_of(kind: u32) -> Restarts
     ensures { λ r. ⌜ TellsRestarts kind r ⌝ }
 {
@@ -172,6 +210,17 @@ pub fn table_source(q: u32) -> TableSource
 }
 
 impl Restarts {
+    // Whether this is an interval of such pictures.
+    fn have(self, interval: u32) -> bool
+        ensures { λ r. ⌜ r ≡ hasInterval self interval ⌝ }
+    {
+        match self {
+            Restarts::Absent => interval == 0,
+            Restarts::Present => is_within(1, 65535, interval),
+            Restarts::NotCarried => false,
+        }
+    }
+
     pub(crate) fn are_present(self) -> bool
         ensures { λ r. ⌜ r ≡ arePresent self ⌝ }
     {

@@ -52,7 +52,7 @@ fn rule_broken(payload: &[u8], tables: &[u8]) -> bool
     }
 }
 
-fn has_zero(bytes: &[u8]) -> bool
+pub(crate) fn has_zero(bytes: &[u8]) -> bool
     requires { ⌜ length (now bytes) ≡ 128 ⌝ }
     ensures { λ r. ⌜ r ≡ any Tables.isZero (now (bytes .entry)) ⌝ }
 {

@@ -1,0 +1,61 @@
+-- Bytes put at a place of a list, over those that stand there. Assumes nothing.
+use Prim.Native.Nat.{ℕ, zero, suc, _+_, _≤_, _<_}
+use mathlib.Core.List.{List, [], _∷_, _++_, append-assoc}
+use mathlib.Core.Path.{_≡_, sym, ap, _∙_}
+use native.Mathlib.Nat.{add-zero, zero-add, suc-add}
+use native.Mathlib.Numerals.{add-one}
+use native.Mathlib.Omega.{arith}
+use lib.ListN.{length, getD, take, drop, set, length-append, take-append-drop}
+use lib.Seq.{set-split, take-append-seam, drop-append-add, drop-drop, length-take-le}
+use Rattle.laws.specs.Lists.{fill-more}
+
+abbrev pub put : List ℕ → ℕ → List ℕ → List ℕ
+put l at bytes = take at l ++ (bytes ++ drop (at + length bytes) l)
+
+-- What a call leaves that puts bytes at a place.
+pub record Puts (before : List ℕ) (at : ℕ) (bytes after : List ℕ) : Type 0 where
+  pub same : after ≡ put before at bytes
+
+-- ---- laws
+
+put-front : (l bytes : List ℕ) → put l 0 bytes ≡ bytes ++ drop (length bytes) l
+put-front l bytes = rw (zero-add (length bytes))
+
+pub puts-front : {before bytes after : List ℕ} {n : ℕ} → Puts before 0 bytes after → length bytes ≡ n → after ≡ bytes ++ drop n before
+puts-front {before} {bytes} {after} {n} p e = p .same ∙ rw (← e) (put-front before bytes)
+
+put-cons : (x : ℕ) (l : List ℕ) (at : ℕ) (bytes : List ℕ) → put (x ∷ l) (suc at) bytes ≡ x ∷ put l at bytes
+put-cons x l at bytes = rw (suc-add at (length bytes))
+
+-- nothing, and one byte
+pub puts-none : (l : List ℕ) (at : ℕ) → Puts l at [] l
+puts-none l at = record { same = rw (add-zero at) (sym (take-append-drop at l)) }
+
+pub puts-byte : (l : List ℕ) (at v : ℕ) → at < length l → Puts l at (v ∷ []) (set l at v)
+puts-byte l at v h = record { same = rw (add-one at) (set-split l at v h) }
+
+-- some bytes, and then some behind them
+put-put : (l : List ℕ) (at : ℕ) (a b : List ℕ) → at ≤ length l → put (put l at a) (at + length a) b ≡ put l at (a ++ b)
+put-put l zero a b h =
+    rw (put-front l a, zero-add (length a), take-append-seam a (drop (length a) l), drop-append-add a (drop (length a) l) (length b), drop-drop (length b) (length a) l, put-front l (a ++ b), length-append a b)
+    (sym (append-assoc a b (drop (length a + length b) l)))
+put-put [] (suc at) a b h = absurd (omega arith)
+put-put (x ∷ l) (suc at) a b h =
+    rw (put-cons x l at a, suc-add at (length a), put-cons x (put l at a) (at + length a) b, put-cons x l at (a ++ b))
+    (ap (λ (m : List ℕ). x ∷ m) (put-put l at a b (omega arith)))
+
+pub puts-more : {before between after a b : List ℕ} {at next : ℕ} → Puts before at a between → Puts between next b after → at ≤ length before → next ≡ at + length a → Puts before at (a ++ b) after
+puts-more {before} {between} {after} {a} {b} {at} {next} p q h e = record { same = q .same ∙ rw (e, p .same) (put-put before at a b h) }
+
+-- one byte more of a list, in the turn of a loop
+more : (l : List ℕ) (at : ℕ) (bytes : List ℕ) (i : ℕ) → i < length bytes → at + i < length l → set (put l at (take i bytes)) (at + i) (getD bytes i 0) ≡ put l at (take (i + 1) bytes)
+more l zero bytes i h g =
+    rw (put-front l (take i bytes), put-front l (take (i + 1) bytes), zero-add i, length-take-le i bytes (omega arith), length-take-le (i + 1) bytes (omega arith))
+    (fill-more bytes l i h (omega arith))
+more [] (suc at) bytes i h g = absurd (omega arith)
+more (x ∷ l) (suc at) bytes i h g =
+    rw (put-cons x l at (take i bytes), put-cons x l at (take (i + 1) bytes), suc-add at i)
+    (ap (λ (m : List ℕ). x ∷ m) (more l at bytes i h (omega arith)))
+
+pub puts-next : {before between : List ℕ} {at : ℕ} (bytes : List ℕ) (i : ℕ) → Puts before at (take i bytes) between → i < length bytes → at + i < length before → Puts before at (take (i + 1) bytes) (set between (at + i) (getD bytes i 0))
+puts-next {before} {between} {at} bytes i p h g = record { same = rw (p .same) (more before at bytes i h g) }

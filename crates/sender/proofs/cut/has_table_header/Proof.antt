@@ -1,0 +1,45 @@
+-- `sender::cut::has_table_header` meets its contract: by cases on where the tables come from. Assumes nothing.
+use borrow.Author.Needs.{needs}
+use Rattle.sender.proofs.cut.has_table_header.Statement.{statement}
+use Rattle.sender.proofs.cut.has_table_header.Tie as tie
+
+table-source-requires : tie.Need-table-source-requires
+table-source-requires c κs = search needs
+
+enum-told : tie.Need-enum-told
+enum-told c = search needs
+
+enum-told-2 : tie.Need-enum-told-2
+enum-told-2 c = search needs
+
+enum-told-3 : tie.Need-enum-told-3
+enum-told-3 c = search needs
+
+enum-told-4 : tie.Need-enum-told-4
+enum-told-4 c = search needs
+
+returns : tie.Need-returns
+returns c = rw (← c .before .before .table-source .ensures, c .enum-told .given .1)
+
+returns-2 : tie.Need-returns-2
+returns-2 c = rw (← c .before .before .table-source .ensures, c .enum-told2 .given .1)
+
+returns-3 : tie.Need-returns-3
+returns-3 c = rw (← c .before .before .table-source .ensures, c .enum-told3 .given .1)
+
+returns-4 : tie.Need-returns-4
+returns-4 c = rw (← c .before .before .table-source .ensures, c .enum-told4 .given .1)
+
+pub has-table-header-spec : {M : Type 1} → statement M
+has-table-header-spec =
+    tie.close
+    (tie.spec
+    table-source-requires
+    enum-told
+    enum-told-2
+    enum-told-3
+    enum-told-4
+    returns
+    returns-2
+    returns-3
+    returns-4)

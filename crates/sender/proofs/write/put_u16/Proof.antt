@@ -1,0 +1,42 @@
+-- `sender::write::put_u16` meets its contract: the high byte, then the low. Assumes nothing.
+use borrow.Author.Needs.{needs}
+use native.Mathlib.Omega.{arith}
+use Rattle.laws.specs.Put.{puts-more}
+use Rattle.laws.specs.Spelled.{spelled-2}
+use Rattle.sender.proofs.write.put_u16.Statement.{statement}
+use Rattle.sender.proofs.write.put_u16.Tie as tie
+
+cast-put-u8 : tie.Need-cast-put-u8
+cast-put-u8 c = search needs
+
+put-u8-requires : tie.Need-put-u8-requires
+put-u8-requires c κs = search needs
+
+cast-put-u8-2 : tie.Need-cast-put-u8-2
+cast-put-u8-2 c = search needs
+
+add-put-u8 : tie.Need-add-put-u8
+add-put-u8 c = search needs
+
+put-u8-requires-2 : tie.Need-put-u8-requires-2
+put-u8-requires-2 c κs = search needs
+
+same-length : tie.Need-same-length
+same-length c = search needs
+
+returns : tie.Need-returns
+returns c =
+    let a = c .before .before .before .before .before .before .before .before .before .args in
+    rw (spelled-2 (a .v) (omega arith)) (puts-more (c .before .before .before .before .before .before .put-u8 .ensures) (c .before .before .put-u82 .ensures) (omega arith) (omega arith))
+
+pub put-u16-spec : {M : Type 1} → statement M
+put-u16-spec =
+    tie.close
+    (tie.spec
+    cast-put-u8
+    put-u8-requires
+    cast-put-u8-2
+    add-put-u8
+    put-u8-requires-2
+    same-length
+    returns)

@@ -1,0 +1,224 @@
+-- The reader gives back what was sent: the packet of any fragment of a picture's scan, however the scan is cut. Assumes nothing.
+use Prim.Native.Nat.{ℕ, _+_, _^_, _≤_, _<_}
+use mathlib.Core.Bool.{true, false, cond, _&&_}
+use mathlib.Core.List.{List, [], _∷_, _++_, append-assoc}
+use mathlib.Core.Logic.{_⊎_, ⊎-elim}
+use mathlib.Core.Path.{_≡_, sym, ap, _∙_}
+use native.Mathlib.Nat.{add-zero, add-assoc}
+use native.Mathlib.Omega.{arith}
+use borrow.Author.Tests.{le-ltb, eq-eqb, ne-eqb, eqb-true}
+use lib.Dec.{eqb}
+use lib.ListN.{length, drop, length-drop}
+use lib.Seq.{take-all, getD-drop, drop-drop, take-append-seam, drop-append-seam}
+use Rattle.fragments.specs.Fragments.{stop, bytesOf, length-bytes-of}
+use Rattle.fragments.specs.declared.Fragment.{Fragment}
+use Rattle.laws.specs.Spelled.{spelled}
+use Rattle.laws.specs.Truth.{split, never-both, and-true, same}
+use Rattle.replies.specs.Checks.{judged, passed-first}
+use Rattle.replies.specs.declared.Judged.the-variants.{Passed}
+use Rattle.wire.specs.Field.{field, field-2}
+use Rattle.wire.specs.Kind.{restartsOf, arePresent}
+use Rattle.wire.specs.Lawful.{Lawful}
+use Rattle.wire.specs.Main.{main, mainEnd}
+use Rattle.wire.specs.Readable.{read-scan, read-tables}
+use Rattle.wire.specs.Reading.{rtpChecks, jpegChecks, headerOf, said, reading, scanIn, tablesIn}
+use Rattle.wire.specs.Restart.{hasRestart, interval, restartEnd}
+use Rattle.wire.specs.Rtp.{longest, fixed, fixedEnd, headersEnd, dropped, paddingBroken, payloadLength, payload}
+use Rattle.wire.specs.TableSource.{tableSource, isInBand}
+use Rattle.wire.specs.Tables.{hasTableHeader, tablesLength, precision, tablesAt, scanAt, tables, tableRuleBroken, rule-without, rule-none, rule-full}
+use Rattle.wire.specs.declared.Packet.{Packet}
+use Rattle.wire.specs.declared.Reading.the-variants as Answer
+use Rattle.sender.specs.Packet.{rtpHeader, mainHeader, restartHeader, tableHeader, packet}
+use Rattle.sender.specs.Picture.{Picture}
+use Rattle.sender.specs.Sending.{tablesFit, none-or-full}
+use Rattle.sender.specs.declared.Stream.{Stream}
+
+-- A picture that may be sent: its header fields and its tables; and values of a stream, each within its field.
+pub record Sendable (s : Stream) (p : Picture) : Type 0 where
+  pub header : Lawful (p .header)
+  pub tables : tablesFit (tableSource (p .header .q)) (p .tables) ≡ true
+  pub time : s .time < 2 ^ 32
+  pub source : s .source < 2 ^ 32
+
+-- A fragment that a packet can carry.
+pub record Carried (s : Stream) (p : Picture) (k : ℕ) (c : Fragment) : Type 0 where
+  pub some : 1 ≤ c .length
+  pub inside : stop c ≤ length (p .scan)
+  pub offset : c .offset < 2 ^ 24
+  pub short : length (packet s p k c) ≤ longest
+
+-- What a reader of that source makes of the packet's bytes.
+pub record ReadBack (s : Stream) (p : Picture) (c : Fragment) (bytes : List ℕ) : Type 0 where
+  pub said : Packet
+  pub read : reading (s .source) bytes ≡ Answer.Said said
+  pub marker : said .marker ≡ c .marker
+  pub time : said .time ≡ s .time
+  pub offset : said .offset ≡ c .offset
+  pub header : said .header ≡ p .header
+  pub brought : c .offset ≡ 0 → said .tables .length ≡ length (p .tables)
+  pub not-brought : (c .offset ≡ 0 → ⊥) → said .tables .length ≡ 0
+  pub tables : c .offset ≡ 0 → (length (p .tables) ≡ 0 → ⊥) → tablesIn bytes said ≡ p .tables
+  pub scan : scanIn bytes said ≡ bytesOf (p .scan) c
+
+-- ---- laws
+
+-- the RTP header, in front of anything
+module _ (s : Stream) (k m : ℕ) (b : List ℕ) where
+  payload-behind : payload (rtpHeader s k m ++ b) ≡ b
+  unfolding payload payloadLength dropped headersEnd spelled
+  payload-behind = take-all (payloadLength (rtpHeader s k m ++ b)) b (omega arith)
+
+  time-read : s .time < 2 ^ 32 → fixed (rtpHeader s k m ++ b) .time ≡ s .time
+  unfolding field spelled
+  time-read small = omega arith
+
+  rtp-passes : s .source < 2 ^ 32 → length (rtpHeader s k m ++ b) ≤ longest → judged (rtpChecks (s .source) (rtpHeader s k m ++ b)) ≡ Passed
+  unfolding judged paddingBroken headersEnd field spelled
+  rtp-passes from short =
+      let p = rtpHeader s k m ++ b in
+      rw (le-ltb longest (length p) short, le-ltb (length p) fixedEnd (omega arith), same (fixed p .payloadType) 26 (omega arith), same (fixed p .source) (s .source) (omega arith))
+
+-- What the reader makes of tables that the first packet of a picture brings, and of the scan data behind them.
+record TablesRead (b : List ℕ) (offset : ℕ) (t scan : List ℕ) : Type 0 where
+  kept : tableRuleBroken b ≡ false
+  brought : offset ≡ 0 → tablesLength b ≡ length t
+  not-brought : (offset ≡ 0 → ⊥) → tablesLength b ≡ 0
+  same : offset ≡ 0 → (length t ≡ 0 → ⊥) → tables b ≡ t
+  behind : drop (scanAt b) b ≡ scan
+
+module _ (b t scan : List ℕ) (fit : tablesFit (tableSource (main b .q)) t ≡ true) where
+  -- behind a table header
+  module _ (header : hasTableHeader b ≡ true) (there : drop (restartEnd b) b ≡ 0 ∷ 0 ∷ (spelled 2 (length t) ++ (t ++ scan))) where
+    narrow : precision b ≡ 0
+    unfolding precision
+    narrow = rw (← getD-drop (restartEnd b) b 1 0, there)
+
+    length-read : tablesLength b ≡ length t
+    unfolding tablesLength spelled
+    length-read =
+        rw (header, field-2 b (restartEnd b + 2), add-assoc (restartEnd b) 2 1, ← getD-drop (restartEnd b) b 2 0, ← getD-drop (restartEnd b) b 3 0, there)
+        (⊎-elim (λ none. omega arith) (λ f. omega arith) (none-or-full (tableSource (main b .q)) t fit))
+
+    tables-there : drop (tablesAt b) b ≡ t ++ scan
+    unfolding tablesAt spelled
+    tables-there = rw (header, ← drop-drop 4 (restartEnd b) b, there)
+
+    tables-read : tables b ≡ t
+    tables-read = rw (tables-there, length-read) (take-append-seam t scan)
+
+    with-tables : TablesRead b (main b .offset) t scan
+    unfolding hasTableHeader scanAt
+    with-tables = record {
+      kept = ⊎-elim (λ none. rule-none b header narrow (length-read ∙ none .0) ∙ none .1) (λ f. rule-full b header narrow (length-read ∙ f .1) ∙ rw tables-read (f .2)) (none-or-full (tableSource (main b .q)) t fit);
+      brought = λ first. length-read;
+      not-brought = λ later. absurd (later (eqb-true (main b .offset) 0 (and-true (eqb (main b .offset) 0) (isInBand (tableSource (main b .q))) header .0)));
+      same = λ first some. tables-read;
+      behind = rw (← drop-drop (tablesLength b) (tablesAt b) b, tables-there, length-read) (drop-append-seam t scan);
+    }
+
+  -- without one
+  module _ (bare : hasTableHeader b ≡ false) (there : drop (restartEnd b) b ≡ scan) where
+    no-length : tablesLength b ≡ 0
+    unfolding tablesLength
+    no-length = rw bare
+
+    none-due : main b .offset ≡ 0 → length t ≡ 0
+    unfolding hasTableHeader
+    none-due first = ⊎-elim (λ none. none .0) (λ f. absurd (never-both (f .0) (rw (eq-eqb (main b .offset) 0 first) at bare))) (none-or-full (tableSource (main b .q)) t fit)
+
+    without-tables : TablesRead b (main b .offset) t scan
+    unfolding scanAt tablesAt
+    without-tables = record {
+      kept = rule-without b bare;
+      brought = λ first. no-length ∙ sym (none-due first);
+      not-brought = λ later. no-length;
+      same = λ first some. absurd (some (none-due first));
+      behind = simp (no-length, bare, add-zero) there;
+    }
+
+  tables-of : drop (restartEnd b) b ≡ cond (hasTableHeader b) (0 ∷ 0 ∷ (spelled 2 (length t) ++ t)) [] ++ scan → TablesRead b (main b .offset) t scan
+  unfolding spelled
+  tables-of there = split (hasTableHeader b) (λ e. with-tables e (rw e at there)) (λ e. without-tables e (rw e at there))
+
+-- A packet's parts: what is due behind the restart header, and behind the RTP header.
+abbrev fromTables : Picture → Fragment → List ℕ
+fromTables p c = tableHeader (p .header) (p .tables) (c .offset) ++ bytesOf (p .scan) c
+
+abbrev body : Picture → Fragment → List ℕ
+body p c = mainHeader (p .header) (c .offset) ++ (restartHeader (p .header) ++ fromTables p c)
+
+packet-parts : (s : Stream) (p : Picture) (k : ℕ) (c : Fragment) → packet s p k c ≡ rtpHeader s k (c .marker) ++ body p c
+unfolding packet
+packet-parts s p k c = simp append-assoc
+
+-- what the reader makes of them, the checks in its order
+module _ (s : Stream) (p : Picture) (k : ℕ) (c : Fragment) (sendable : Sendable s p) (carried : Carried s p k c) where
+  offset-read : main (body p c) .offset ≡ c .offset
+  unfolding field spelled
+  offset-read = omega arith
+
+  interval-read : interval (body p c) ≡ p .header .interval
+  unfolding interval field restartHeader spelled
+  interval-read = split (arePresent (restartsOf (p .header .kind))) (λ e. rw e (omega (arith, sendable .header .interval e))) (λ e. rw e (sym (sendable .header .no-interval e)))
+
+  interval-some : (hasRestart (body p c) && eqb (interval (body p c)) 0) ≡ false
+  unfolding spelled
+  interval-some = rw interval-read (split (arePresent (restartsOf (p .header .kind))) (λ e. rw e (ne-eqb (p .header .interval) 0 (λ z. omega (arith, sendable .header .interval e)))) (λ e. rw e))
+
+  header-read : headerOf (body p c) ≡ p .header
+  unfolding spelled
+  header-read = rw interval-read
+
+  restart-behind : drop (restartEnd (body p c)) (body p c) ≡ fromTables p c
+  unfolding restartEnd restartHeader spelled
+  restart-behind = split (arePresent (restartsOf (p .header .kind))) (λ e. rw e) (λ e. rw e)
+
+  tables-sent : TablesRead (body p c) (c .offset) (p .tables) (bytesOf (p .scan) c)
+  unfolding hasTableHeader tableHeader spelled
+  tables-sent = rw offset-read at (tables-of (body p c) (p .tables) (bytesOf (p .scan) c) (sendable .tables) (rw offset-read restart-behind))
+
+  jpeg-passes : judged (jpegChecks (body p c)) ≡ Passed
+  unfolding judged spelled restartEnd tablesAt scanAt
+  jpeg-passes =
+      let b = body p c in
+      let room : scanAt b < length b = omega (arith, length-drop (scanAt b) b, ap length (tables-sent .behind), length-bytes-of (p .scan) c (carried .inside)) in
+      rw (
+        le-ltb (length b) mainEnd (omega arith),
+        sendable .header .kind,
+        sendable .header .q,
+        ne-eqb (p .header .width) 0 (λ z. omega arith),
+        ne-eqb (p .header .height) 0 (λ z. omega arith),
+        le-ltb (length b) (restartEnd b) (omega arith),
+        interval-some,
+        le-ltb (length b) (scanAt b) (omega arith),
+        tables-sent .kept,
+        ne-eqb (length b) (scanAt b) (λ z. omega arith),
+      )
+
+  parts-read : reading (s .source) (rtpHeader s k (c .marker) ++ body p c) ≡ Answer.Said (said (rtpHeader s k (c .marker) ++ body p c))
+  unfolding reading
+  parts-read =
+      let r = rtpHeader s k (c .marker) ++ body p c in
+      rw (passed-first (rtpChecks (s .source) r) (jpegChecks (payload r)) (rtp-passes s k (c .marker) (body p c) (sendable .source) (rw (packet-parts s p k c) at (carried .short))), payload-behind s k (c .marker) (body p c), jpeg-passes)
+
+  parts-read-back : ReadBack s p c (rtpHeader s k (c .marker) ++ body p c)
+  unfolding said
+  parts-read-back =
+      let r = rtpHeader s k (c .marker) ++ body p c in
+      let behind = payload-behind s k (c .marker) (body p c) in
+      let t : TablesRead (payload r) (c .offset) (p .tables) (bytesOf (p .scan) c) = rw behind tables-sent in
+      record {
+        said = said r;
+        read = parts-read;
+        marker = omega arith;
+        time = time-read s k (c .marker) (body p c) (sendable .time);
+        offset = rw behind offset-read;
+        header = rw behind header-read;
+        brought = t .brought;
+        not-brought = t .not-brought;
+        tables = λ first some. read-tables (s .source) r (said r) parts-read (λ none. some (sym (t .brought first) ∙ none)) ∙ t .same first some;
+        scan = read-scan (s .source) r (said r) parts-read ∙ t .behind;
+      }
+
+pub read-back : (s : Stream) (p : Picture) (k : ℕ) (c : Fragment) → Sendable s p → Carried s p k c → ReadBack s p c (packet s p k c)
+read-back s p k c sendable carried = rw (packet-parts s p k c) (parts-read-back s p k c sendable carried)
