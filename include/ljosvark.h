@@ -16,9 +16,16 @@ extern "C" {
 
 /* The replies. */
 enum {
-    LJ_SUCCESS = 0,        /* done; the length says how many bytes were written */
-    LJ_Q_NOT_MADE = 34,    /* table making: Q is not 1 to 99 */
-    LJ_TABLES_OUTPUT = 35  /* table making: the output is under 128 bytes */
+    LJ_SUCCESS = 0,          /* done; the length says how many bytes were written */
+    LJ_Q_NOT_MADE = 34,      /* table making: Q is not 1 to 99 */
+    LJ_TABLES_OUTPUT = 35,   /* table making: the output is under 128 bytes */
+    LJ_PARAMETERS = 40,      /* sender: type, Q, width, height or interval outside its limits */
+    LJ_SCAN_LENGTH = 41,     /* sender: the scan is not 1 to 65,536 bytes */
+    LJ_PACKET_SIZE = 42,     /* sender: the packet size is not 192 to 1,472 */
+    LJ_SENT_TABLES = 43,     /* sender: tables that this Q does not take, or with a 0, or not given */
+    LJ_OVER_64_PACKETS = 44, /* sender: the picture needs more than 64 packets of this size */
+    LJ_INDEX_TOO_LARGE = 45, /* sender: the picture has no packet k */
+    LJ_PACKET_OUTPUT = 46    /* sender: the output is shorter than the packet */
 };
 
 /* What a call that writes answers: a reply, and the length written, which is 0 with a refusal. */
@@ -31,6 +38,30 @@ typedef struct {
  * entries, each in the zigzag order of a DQT segment, none of them 0. They are the first 128 bytes of out, and out
  * past them stays as it was. Refusals, in this order: LJ_Q_NOT_MADE, LJ_TABLES_OUTPUT. */
 lj_written lj_make_tables(uint32_t q, uint8_t *out, size_t out_len);
+
+/* Packet k, from 0, of a picture, as RTP carries it (RFC 2435, RFC 3550): the first bytes of out, and out past them stays
+ * as it was. A picture is sent by asking for k = 0, 1, 2 and so on, with all else the same, until LJ_INDEX_TOO_LARGE.
+ *
+ *   type         0 or 1, or 64 or 65 with restart intervals
+ *   q            1 to 99, whose tables the receiver makes itself, or 128 to 255
+ *   width        and height: 1 to 255, in units of 8 pixels
+ *   interval     the restart interval: 1 to 65,535 for types 64 and 65, and 0 for 0 and 1
+ *   tables       128 bytes, none of them 0, as lj_make_tables orders them; or no bytes. Q 1 to 99 has none, Q 255 always has
+ *                them, and Q 128 to 254 may leave them out where the receiver has kept those of an earlier picture of that Q
+ *   scan         the scan data of the picture, 1 to 65,536 bytes, which are carried as they are
+ *   packet_size  the length to which each packet is filled, all headers counted: 192 to 1,472. The last packet takes what
+ *                remains, and alone has the marker
+ *   start        the sequence number of packet 0; packet k has start + k, modulo 65,536
+ *   time         the picture's time stamp, which every packet of it bears
+ *   source       the source (SSRC), by which a receiver knows its sender
+ *
+ * An output of packet_size bytes is always long enough. Refusals, in this order: LJ_PARAMETERS, LJ_SCAN_LENGTH,
+ * LJ_PACKET_SIZE, LJ_SENT_TABLES, LJ_OVER_64_PACKETS, LJ_INDEX_TOO_LARGE, LJ_PACKET_OUTPUT. out may not overlap tables or
+ * scan. */
+lj_written lj_packet(uint32_t type, uint32_t q, uint32_t width, uint32_t height, uint32_t interval,
+                     const uint8_t *tables, size_t tables_len, const uint8_t *scan, size_t scan_len,
+                     uint32_t packet_size, uint16_t start, uint32_t time, uint32_t source, uint32_t k,
+                     uint8_t *out, size_t out_len);
 
 #ifdef __cplusplus
 }

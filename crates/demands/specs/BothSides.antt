@@ -1,16 +1,34 @@
 -- The cases that document 01 marks with a star under "Both sides of each line", as one table that the checker computes.
 -- Assumes nothing.
 use Prim.Native.Nat.{ℕ, _+_}
+use mathlib.Core.List.{[], _∷_}
 use mathlib.Core.Path.{_≡_, refl}
-use lib.ListN.{getD}
+use lib.ListN.{getD, replicate}
+use Rattle.fragments.specs.declared.Fragment.{Fragment}
+use Rattle.laws.specs.Spelled.{spelled}
+use Rattle.laws.specs.Within.{within}
+use Rattle.sender.specs.Cuts.{room, cuts}
+use Rattle.sender.specs.Packet.{restartHeader, tableHeader}
+use Rattle.sender.specs.Picture.{Picture, picture}
 use Rattle.tables.specs.Quantiser.{lumaAt, chromaAt, zigzag, inZigzag, scale, made, scaled, tablesOf}
-
+use Rattle.wire.specs.Kind.{restartsOf}
+use Rattle.wire.specs.TableSource.{tableSource}
 -- entry i of a Q's luma table, and of its chroma table
 abbrev luma : ℕ → ℕ → ℕ
 luma q i = getD (tablesOf q) i 0
 
 abbrev chroma : ℕ → ℕ → ℕ
 chroma q i = getD (tablesOf q) (64 + i) 0
+
+-- a picture of type 0 and Q 50, and one of type 65 and Q 255 with its tables, each with a scan of n bytes
+abbrev plain : ℕ → Picture
+plain n = picture (record { kind = 0; q = 50; width = 2; height = 2; interval = 0 }) [] (replicate n 170)
+
+abbrev bringing : ℕ → Picture
+bringing n = picture (record { kind = 65; q = 255; width = 2; height = 2; interval = 4 }) (replicate 128 16) (replicate n 170)
+
+abbrev cut : ℕ → ℕ → ℕ → Fragment
+cut offset length marker = record { offset = offset; length = length; marker = marker }
 
 pub record BothSides : Type 0 where
   pub q-50-luma-0 : luma 50 0 ≡ 16
@@ -20,9 +38,12 @@ pub record BothSides : Type 0 where
   pub q-99-luma-0 : luma 99 0 ≡ 1
   pub q-3-luma-1 : luma 3 1 ≡ 183
   pub q-51-chroma-63 : chroma 51 63 ≡ 97
+  pub scan-172 : cuts 192 (plain 172) ≡ cut 0 172 1 ∷ []
+  pub scan-173 : cuts 192 (plain 173) ≡ cut 0 172 0 ∷ cut 172 1 1 ∷ []
+  pub tables-in-the-first : cuts 192 (bringing 205) ≡ cut 0 36 0 ∷ cut 36 168 0 ∷ cut 204 1 1 ∷ []
 
 pub both-sides : BothSides
-unfolding lumaAt chromaAt zigzag inZigzag scale made scaled tablesOf
+unfolding lumaAt chromaAt zigzag inZigzag scale made scaled tablesOf cuts room restartHeader tableHeader spelled restartsOf tableSource within
 both-sides = record {
   q-50-luma-0 = refl;
   q-50-luma-2 = refl;
@@ -31,4 +52,7 @@ both-sides = record {
   q-99-luma-0 = refl;
   q-3-luma-1 = refl;
   q-51-chroma-63 = refl;
+  scan-172 = refl;
+  scan-173 = refl;
+  tables-in-the-first = refl;
 }

@@ -1,13 +1,20 @@
 -- Any two outcomes of a public function that satisfy its contract, at the same inputs, are equal. Assumes nothing.
 use Prim.Native.Nat.{ℕ}
+use mathlib.Core.Bool.{Bool}
 use mathlib.Core.List.{List}
 use mathlib.Core.Path.{_≡_, sym, _∙_}
 use Rattle.replies.specs.Output.{refused, succeeded, writes-determined}
 use Rattle.replies.specs.declared.Written.{Written}
+use Rattle.sender.specs.Picture.{Picture}
+use Rattle.sender.specs.Sending.{Sends}
+use Rattle.sender.specs.declared.Stream.{Stream}
 use Rattle.tables.specs.MakeTables.{MakesTables}
 use Rattle.wire.specs.Kind.{TellsRestarts}
+use Rattle.wire.specs.Lawful.{TellsLawful}
 use Rattle.wire.specs.Reading.{Reads, GivesScan, GivesTables}
 use Rattle.wire.specs.TableSource.{TellsSource}
+use Rattle.wire.specs.Tables.{TellsFull}
+use Rattle.wire.specs.declared.Header.{Header}
 use Rattle.wire.specs.declared.Packet.{Packet}
 use Rattle.wire.specs.declared.Reading.{Reading}
 use Rattle.wire.specs.declared.Restarts.{Restarts}
@@ -28,7 +35,8 @@ success n w w′ a b = only a b
 pub make-tables : (q : ℕ) (before : List ℕ) (w w′ : Written) (after after′ : List ℕ) → MakesTables q before w after → MakesTables q before w′ after′ → (w ≡ w′) × (after ≡ after′)
 make-tables q before w w′ after after′ a b = writes-determined a b
 
--- `wire::read`; `wire::scan` and `wire::tables`, by the bytes that they hand out; `wire::restarts_of` and `wire::table_source`
+-- `wire::read`; `wire::scan` and `wire::tables`, by the bytes that they hand out; and what `wire` tells of a type, a Q, header fields
+-- and tables
 pub read : (source : ℕ) (packet : List ℕ) (r r′ : Reading) → Reads source packet r → Reads source packet r′ → r ≡ r′
 read source packet r r′ a b = only a b
 
@@ -43,3 +51,13 @@ restarts-of kind r r′ a b = only a b
 
 pub table-source : (q : ℕ) (s s′ : TableSource) → TellsSource q s → TellsSource q s′ → s ≡ s′
 table-source q s s′ a b = only a b
+
+pub is-lawful : (header : Header) (b b′ : Bool) → TellsLawful header b → TellsLawful header b′ → b ≡ b′
+is-lawful header b b′ x y = only x y
+
+pub are-full : (tables : List ℕ) (b b′ : Bool) → TellsFull tables b → TellsFull tables b′ → b ≡ b′
+are-full tables b b′ x y = only x y
+
+-- `sender::packet`, and `lj_packet`, which has the same contract
+pub packet : (p : Picture) (size : ℕ) (s : Stream) (k : ℕ) (before : List ℕ) (w w′ : Written) (after after′ : List ℕ) → Sends p size s k before w after → Sends p size s k before w′ after′ → (w ≡ w′) × (after ≡ after′)
+packet p size s k before w w′ after after′ a b = writes-determined a b

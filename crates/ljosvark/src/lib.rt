@@ -1,10 +1,60 @@
 // The C interface: thin entries over the crates below. include/ljosvark.h declares them for C.
+ghost use Rattle.sender.specs.Picture.{picture};
+ghost use Rattle.sender.specs.Sending.{Sends};
 ghost use Rattle.tables.specs.MakeTables.{MakesTables};
 use replies::Written;
+use sender::Stream;
+use wire::Header;
 
 #[no_mangle]
 pub extern "C" fn lj_make_tables(q: u32, out: &mut [u8]) -> Written
     ensures { λ w. ⌜ MakesTables q (now (out .entry)) w (now (out .exit)) ⌝ }
 {
     tables::make_tables(q, out)
+}
+
+#[no_mangle]
+pub extern "C" fn lj_packet(
+    kind: u32,
+    q: u32,
+    width: u32,
+    height: u32,
+    interval: u32,
+    tables: &[u8],
+    scan: &[u8],
+    size: u32,
+    start: u16,
+    time: u32,
+    source: u32,
+    k: u32,
+    out: &mut [u8],
+) -> Written
+    ensures { λ w.
+        ⌜
+        Sends
+        (picture
+        (record { kind = kind; q = q; width = width; height = height; interval = interval })
+        (now (tables .entry))
+        (now (scan .entry)))
+        size
+        (record { start = start; time = time; source = source })
+        k
+        (now (out .entry))
+        w
+        (now (out .exit))
+        ⌝ }
+{
+    let header = Header {
+        kind,
+        q,
+        width,
+        height,
+        interval,
+    };
+    let stream = Stream {
+        start,
+        time,
+        source,
+    };
+    sender::packet(header, tables, scan, size, stream, k, out)
 }

@@ -2,8 +2,10 @@
 // A line that is empty or begins with # is copied, and one that is no case gives a question mark.
 mod hex;
 mod packet_case;
+mod sent_case;
 mod tables_case;
 mod text;
+mod written;
 
 use libc::STDOUT_FILENO;
 
@@ -40,5 +42,5 @@ fn answer(line: &[u8]) {
 
 // Runs the case on a line; whether it is one.
 fn run_case(line: &[u8]) -> bool {
-    tables_case::run(line) || packet_case::run(line)
+    tables_case::run(line) || packet_case::run(line) || sent_case::run(line)
 }

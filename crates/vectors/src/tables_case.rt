@@ -1,10 +1,9 @@
 // A case of table making, `tables Q LENGTH FROM COUNT`: the reply, the length, and COUNT bytes from place FROM of an
 // output of LENGTH bytes, at most 4,096, each 7 at first.
-use crate::text::Number;
+use crate::text::Place;
 use crate::text::begins;
-use crate::text::next_number;
-use crate::text::write_bytes;
-use crate::text::write_number;
+use crate::text::next_numbers;
+use crate::written::write_part;
 
 // The length of the case's first word.
 const WORD: usize = 6;
@@ -14,42 +13,26 @@ pub(crate) fn run(line: &[u8]) -> bool {
     if !begins(line, b"tables") {
         return false;
     }
-    let Number::Of(q, after_q) = next_number(line, WORD) else {
+    let mut n = [0u32; 4];
+    let Place::At(behind) = next_numbers(line, WORD, &mut n) else {
         return false;
     };
-    let Number::Of(length, after_length) = next_number(line, after_q) else {
-        return false;
-    };
-    let Number::Of(from, after_from) = next_number(line, after_length) else {
-        return false;
-    };
-    let Number::Of(count, after_count) = next_number(line, after_from) else {
-        return false;
-    };
-    if after_count != line.len() {
+    if behind != line.len() {
         return false;
     }
-    show(q, length as usize, from as usize, count as usize)
+    show(n)
 }
 
-fn show(q: u32, length: usize, from: usize, count: usize) -> bool {
-    if 4096 < length {
+fn show(n: [u32; 4]) -> bool {
+    if 4096 < n[1] {
         return false;
     }
+    let length = n[1] as usize;
     let mut out = [7u8; 4096];
-    show_part(q, &mut out[0..length], from, count)
+    make(n, &mut out[0..length])
 }
 
-fn show_part(q: u32, out: &mut [u8], from: usize, count: usize) -> bool {
-    if out.len() < from {
-        return false;
-    }
-    if out.len() - from < count {
-        return false;
-    }
-    let w = tables::make_tables(q, out);
-    write_number(w.reply as u64);
-    write_number(w.length as u64);
-    write_bytes(&out[from..from + count]);
-    true
+fn make(n: [u32; 4], out: &mut [u8]) -> bool {
+    let w = tables::make_tables(n[0], out);
+    write_part(w, out, n[2] as usize, n[3] as usize)
 }

@@ -103,6 +103,36 @@ pub(crate) fn next_number(line: &[u8], at: usize) -> Number {
     }
 }
 
+pub(crate) enum Place {
+    At(usize),
+    None,
+}
+
+// The numbers behind one space each, as many as there is room for, and the place behind them.
+pub(crate) fn next_numbers(line: &[u8], at: usize, numbers: &mut [u32]) -> Place {
+    let mut next = at;
+    for i in 0..numbers.len() {
+        let Number::Of(value, behind) = next_number(line, next) else {
+            return Place::None;
+        };
+        numbers[i] = value;
+        next = behind;
+    }
+    Place::At(next)
+}
+
+// The first place of a byte from a place of the line on; the line's length or more where it does not come.
+pub(crate) fn place_of(byte: u8, line: &[u8], at: usize) -> usize {
+    let mut i = at;
+    while i < line.len() {
+        if line[i] == byte {
+            break;
+        }
+        i += 1;
+    }
+    i
+}
+
 pub(crate) fn write_number(n: u64) {
     io::write_all(STDOUT_FILENO, b" ");
     io::print_decimal(STDOUT_FILENO, n);
