@@ -13,6 +13,7 @@ use Rattle.sender.specs.Picture.{Picture, picture}
 use Rattle.tables.specs.Quantiser.{lumaAt, chromaAt, zigzag, inZigzag, scale, made, scaled, tablesOf}
 use Rattle.wire.specs.Kind.{restartsOf}
 use Rattle.wire.specs.TableSource.{tableSource}
+
 -- entry i of a Q's luma table, and of its chroma table
 abbrev luma : ℕ → ℕ → ℕ
 luma q i = getD (tablesOf q) i 0

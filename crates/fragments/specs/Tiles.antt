@@ -45,3 +45,16 @@ tiles-inside start (c ∷ cs) end zero t h = record {
 tiles-inside start (c ∷ cs) end (suc k) t h =
     let i = tiles-inside (stop c) cs end k (t .3) (omega arith) in
     record { from = omega (arith, i .from); some = i .some; to = i .to; marker = i .marker }
+
+-- the marker is on the last alone
+pub last-marked : (start : ℕ) (cs : List Fragment) (end k : ℕ) → Tiles start cs end → suc k ≡ length cs → at cs k .marker ≡ 1
+last-marked start [] end k t h = absurd (omega arith)
+last-marked start (c ∷ []) end zero t h = t .2
+last-marked start (c ∷ d ∷ cs) end zero t h = absurd (omega arith)
+last-marked start (c ∷ cs) end (suc k) t h = last-marked (stop c) cs end k (t .3) (omega arith)
+
+pub others-unmarked : (start : ℕ) (cs : List Fragment) (end k : ℕ) → Tiles start cs end → suc k < length cs → at cs k .marker ≡ 0
+others-unmarked start [] end k t h = absurd (omega arith)
+others-unmarked start (c ∷ []) end zero t h = absurd (omega arith)
+others-unmarked start (c ∷ d ∷ cs) end zero t h = t .2
+others-unmarked start (c ∷ cs) end (suc k) t h = others-unmarked (stop c) cs end k (t .3) (omega arith)

@@ -10,7 +10,8 @@ use borrow.Author.Tests.{le-ltb, eq-eqb, ne-eqb, eqb-true}
 use lib.Dec.{eqb}
 use lib.ListN.{length, drop, length-drop}
 use lib.Seq.{take-all, getD-drop, drop-drop, take-append-seam, drop-append-seam}
-use Rattle.fragments.specs.Fragments.{stop, bytesOf, length-bytes-of}
+use Rattle.fragments.specs.Fragments.{stop, at, bytesOf, length-bytes-of}
+use Rattle.fragments.specs.Tiles.{Tiles, tiles-inside}
 use Rattle.fragments.specs.declared.Fragment.{Fragment}
 use Rattle.laws.specs.Spelled.{spelled}
 use Rattle.laws.specs.Truth.{split, never-both, and-true, same}
@@ -222,3 +223,9 @@ module _ (s : Stream) (p : Picture) (k : ℕ) (c : Fragment) (sendable : Sendabl
 
 pub read-back : (s : Stream) (p : Picture) (k : ℕ) (c : Fragment) → Sendable s p → Carried s p k c → ReadBack s p c (packet s p k c)
 read-back s p k c sendable carried = rw (packet-parts s p k c) (parts-read-back s p k c sendable carried)
+
+-- and so every packet of a picture, for any cuts that tile its scan
+pub tiled-read-back : (s : Stream) (p : Picture) (cs : List Fragment) (k : ℕ) → Sendable s p → Tiles 0 cs (length (p .scan)) → length (p .scan) ≤ 2 ^ 24 → k < length cs → length (packet s p k (at cs k)) ≤ longest → ReadBack s p (at cs k) (packet s p k (at cs k))
+tiled-read-back s p cs k sendable tiles most index short =
+    let i = tiles-inside 0 cs (length (p .scan)) k tiles index in
+    read-back s p k (at cs k) sendable (record { some = i .some; inside = i .to; offset = omega (arith, i .some, i .to, most); short = short })

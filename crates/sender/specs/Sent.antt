@@ -11,7 +11,7 @@ use Rattle.sender.specs.Accepted.{Fit, Accepted, few-tables}
 use Rattle.sender.specs.Cuts.{room, cuts, filled-tiles, filled-room, filled-full}
 use Rattle.sender.specs.Packet.{packet, restart-small, tables-small, length-headers, length-packet}
 use Rattle.sender.specs.Picture.{Picture}
-use Rattle.sender.specs.ReadBack.{ReadBack, read-back}
+use Rattle.sender.specs.ReadBack.{ReadBack, tiled-read-back}
 use Rattle.sender.specs.declared.Stream.{Stream}
 
 module _ {p : Picture} {size : ℕ} (fit : Fit p size) where
@@ -43,8 +43,9 @@ module _ {p : Picture} {size : ℕ} (fit : Fit p size) where
 -- Read back: packet k of the picture, with the time stamp and the source that it bears.
 pub sent-read-back : (s : Stream) (p : Picture) (size k : ℕ) → Accepted p size k → s .time < 2 ^ 32 → s .source < 2 ^ 32 → ReadBack s p (at (cuts size p) k) (packet s p k (at (cuts size p) k))
 sent-read-back s p size k ok time source =
-    let c = at (cuts size p) k in
-    let i = cut-inside (ok .fit) k (ok .index) in
-    read-back s p k c
+    tiled-read-back s p (cuts size p) k
     (record { header = ok .fit .header; tables = ok .fit .tables; time = time; source = source })
-    (record { some = i .some; inside = i .to; offset = omega (arith, i .to, i .some, ok .fit .scan); short = omega (arith, packet-fits (ok .fit) k (ok .index) s, ok .fit .packets) })
+    (cuts-tile (ok .fit))
+    (omega (arith, ok .fit .scan))
+    (ok .index)
+    (omega (arith, packet-fits (ok .fit) k (ok .index) s, ok .fit .packets))

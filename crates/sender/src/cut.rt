@@ -1,6 +1,6 @@
 // Where the scan is cut for packet k, by arithmetic. Every packet has room for as many scan bytes, but the first, whose table header
 // takes some of it: so packet k begins at k rooms, less that header.
-ghost use Prim.Native.Nat.{_+_, _≤_};
+ghost use Prim.Native.Nat.{_+_, _-_, _≤_};
 ghost use mathlib.Core.Path.{_≡_};
 ghost use lib.ListN.{length};
 ghost use Rattle.fragments.specs.Fragments.{at};
@@ -24,17 +24,19 @@ pub(crate) fn cut_at(header: Header, tables: &[u8], scan: &[u8], size: u32, k: u
     let begin = if k == 0 { 0 } else { k as usize * room - taken };
     let end = (k as usize + 1) * room - taken;
     if scan.len() <= end {
-        Fragment {
-            offset: begin as u32,
-            length: (scan.len() - begin) as u32,
-            marker: 1,
-        }
-    } else {
-        Fragment {
-            offset: begin as u32,
-            length: (end - begin) as u32,
-            marker: 0,
-        }
+        return cut(begin, scan.len(), 1);
+    }
+    cut(begin, end, 0)
+}
+
+fn cut(begin: usize, end: usize, marker: u32) -> Fragment
+    requires { ⌜ (begin ≤ end) × (end ≤ 65536) ⌝ }
+    ensures { λ r. ⌜ r ≡ record { offset = begin; length = end - begin; marker = marker } ⌝ }
+{
+    Fragment {
+        offset: begin as u32,
+        length: (end - begin) as u32,
+        marker,
     }
 }
 

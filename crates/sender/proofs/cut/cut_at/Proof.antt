@@ -55,35 +55,28 @@ mul-end c = omega (arith, here (c .before), limits (c .before), place-next (c .b
 sub-end : tie.Need-sub-end
 sub-end c = omega (arith, limits (c .before), place-next (c .before .before .before .before .before .args .k) (c .before .before .room-behind .result))
 
-cast-t18 : tie.Need-cast-t18
-cast-t18 c = omega (arith, here (c .before .before .before), limits (c .before .before .before), begins (c .before .before))
-
-sub-t20 : tie.Need-sub-t20
-sub-t20 c = omega (arith, here (c .before .before .before), limits (c .before .before .before), begins (c .before .before))
-
-cast-t21 : tie.Need-cast-t21
-cast-t21 c = search needs
-
-cast-t22 : tie.Need-cast-t22
-cast-t22 c = omega (arith, here (c .before .before .before), limits (c .before .before .before), begins (c .before .before))
-
-sub-t23 : tie.Need-sub-t23
-sub-t23 c = omega (arith, limits (c .before .before .before), begins (c .before .before), place-next (c .before .before .before .before .before .before .before .args .k) (c .before .before .before .before .room-behind .result))
-
-cast-t24 : tie.Need-cast-t24
-cast-t24 c = search needs
+cut-requires : tie.Need-cut-requires
+cut-requires c κs =
+    let b = c .before in
+    (omega (arith, here (b .before), limits (b .before), begins b), limits (b .before) .2)
 
 returns : tie.Need-returns
 returns c =
     let b = c .before .before in
     let s = b .before .before .before .before .before in
-    sym (cut-k (measured (b .before)) (s .args .k) (s .pre .fit .scan .0) (here (b .before)) .1 ∙ rw (le-leb _ _ (c .before .if2 .taken), begins b))
+    c .cut .ensures ∙ sym (cut-k (measured (b .before)) (s .args .k) (s .pre .fit .scan .0) (here (b .before)) .1 ∙ rw (le-leb _ _ (c .before .if2 .taken), begins b))
+
+cut-requires-2 : tie.Need-cut-requires-2
+cut-requires-2 c κs =
+    let b = c .before in
+    let next = place-next (b .before .before .before .before .before .args .k) (b .before .before .room-behind .result) in
+    (omega (arith, limits (b .before), begins b, next), omega (arith, limits (b .before)))
 
 returns-2 : tie.Need-returns-2
 returns-2 c =
     let b = c .before .before in
     let s = b .before .before .before .before .before in
-    sym (cut-k (measured (b .before)) (s .args .k) (s .pre .fit .scan .0) (here (b .before)) .1 ∙ rw (lt-leb _ _ (c .before .if2 .left), begins b))
+    c .cut2 .ensures ∙ sym (cut-k (measured (b .before)) (s .args .k) (s .pre .fit .scan .0) (here (b .before)) .1 ∙ rw (lt-leb _ _ (c .before .if2 .left), begins b))
 
 pub cut-at-spec : {M : Type 1} → statement M
 cut-at-spec =
@@ -96,11 +89,7 @@ cut-at-spec =
     add-end
     mul-end
     sub-end
-    cast-t18
-    sub-t20
-    cast-t21
-    cast-t22
-    sub-t23
-    cast-t24
+    cut-requires
     returns
+    cut-requires-2
     returns-2)

@@ -2,7 +2,6 @@
 use borrow.Author.Needs.{needs}
 use Prim.Native.Nat.{_-_}
 use lib.ListN.{length}
-use mathlib.Core.Path.{_≡_}
 use Rattle.vectors.proofs.text.place_of.Statement.{statement}
 use Rattle.vectors.proofs.text.place_of.Tie as tie
 
