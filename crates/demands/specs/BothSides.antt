@@ -7,11 +7,15 @@ use lib.ListN.{getD, replicate}
 use Rattle.fragments.specs.declared.Fragment.{Fragment}
 use Rattle.laws.specs.Spelled.{spelled}
 use Rattle.laws.specs.Within.{within}
-use Rattle.sender.specs.Cuts.{room, cuts}
+use Rattle.replies.specs.Checks.{judged}
+use Rattle.replies.specs.declared.Judged.the-variants.{Passed, Refused}
+use Rattle.sender.specs.Cuts.{capacity, cuts}
 use Rattle.sender.specs.Packet.{restartHeader, tableHeader}
 use Rattle.sender.specs.Picture.{Picture, picture}
+use Rattle.sender.specs.Sending.{checks}
 use Rattle.tables.specs.Quantiser.{lumaAt, chromaAt, zigzag, inZigzag, scale, made, scaled, tablesOf}
 use Rattle.wire.specs.Kind.{restartsOf}
+use Rattle.wire.specs.Lawful.{isLawful}
 use Rattle.wire.specs.TableSource.{tableSource}
 
 -- entry i of a Q's luma table, and of its chroma table
@@ -40,11 +44,15 @@ pub record BothSides : Type 0 where
   pub q-3-luma-1 : luma 3 1 ≡ 183
   pub q-51-chroma-63 : chroma 51 63 ≡ 97
   pub scan-172 : cuts 192 (plain 172) ≡ cut 0 172 1 ∷ []
+  pub scan-172-packet-0 : judged (checks (plain 172) 192 0) ≡ Passed
+  pub scan-172-packet-1 : judged (checks (plain 172) 192 1) ≡ Refused 45
   pub scan-173 : cuts 192 (plain 173) ≡ cut 0 172 0 ∷ cut 172 1 1 ∷ []
+  pub scan-173-packet-1 : judged (checks (plain 173) 192 1) ≡ Passed
+  pub scan-173-packet-2 : judged (checks (plain 173) 192 2) ≡ Refused 45
   pub tables-in-the-first : cuts 192 (bringing 205) ≡ cut 0 36 0 ∷ cut 36 168 0 ∷ cut 204 1 1 ∷ []
 
 pub both-sides : BothSides
-unfolding lumaAt chromaAt zigzag inZigzag scale made scaled tablesOf cuts room restartHeader tableHeader spelled restartsOf tableSource within
+unfolding lumaAt chromaAt zigzag inZigzag scale made scaled tablesOf cuts capacity restartHeader tableHeader spelled restartsOf tableSource within judged isLawful
 both-sides = record {
   q-50-luma-0 = refl;
   q-50-luma-2 = refl;
@@ -54,6 +62,10 @@ both-sides = record {
   q-3-luma-1 = refl;
   q-51-chroma-63 = refl;
   scan-172 = refl;
+  scan-172-packet-0 = refl;
+  scan-172-packet-1 = refl;
   scan-173 = refl;
+  scan-173-packet-1 = refl;
+  scan-173-packet-2 = refl;
   tables-in-the-first = refl;
 }

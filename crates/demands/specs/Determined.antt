@@ -7,7 +7,7 @@ use Rattle.replies.specs.Output.{refused, succeeded, writes-determined}
 use Rattle.replies.specs.declared.Written.{Written}
 use Rattle.sender.specs.Picture.{Picture}
 use Rattle.sender.specs.Sending.{Sends}
-use Rattle.sender.specs.declared.Stream.{Stream}
+use Rattle.sender.specs.declared.Stamp.{Stamp}
 use Rattle.tables.specs.MakeTables.{MakesTables}
 use Rattle.wire.specs.Kind.{TellsRestarts}
 use Rattle.wire.specs.Lawful.{TellsLawful}
@@ -59,5 +59,5 @@ pub are-full : (tables : List ℕ) (b b′ : Bool) → TellsFull tables b → Te
 are-full tables b b′ x y = only x y
 
 -- `sender::packet`, and `lj_packet`, which has the same contract
-pub packet : (p : Picture) (size : ℕ) (s : Stream) (k : ℕ) (before : List ℕ) (w w′ : Written) (after after′ : List ℕ) → Sends p size s k before w after → Sends p size s k before w′ after′ → (w ≡ w′) × (after ≡ after′)
+pub packet : (p : Picture) (size : ℕ) (s : Stamp) (k : ℕ) (before : List ℕ) (w w′ : Written) (after after′ : List ℕ) → Sends p size s k before w after → Sends p size s k before w′ after′ → (w ≡ w′) × (after ≡ after′)
 packet p size s k before w w′ after after′ a b = writes-determined a b

@@ -11,8 +11,8 @@ abbrev pub stop : Fragment → ℕ
 stop c = c .offset + c .length
 
 -- fragment k of a list
-abbrev pub at : List Fragment → ℕ → Fragment
-at cs k = getD cs k (record { offset = 0; length = 0; marker = 0 })
+abbrev pub fragmentAt : List Fragment → ℕ → Fragment
+fragmentAt cs k = getD cs k (record { offset = 0; length = 0; marker = 0 })
 
 -- its bytes of the scan
 abbrev pub bytesOf : List ℕ → Fragment → List ℕ

@@ -1,10 +1,12 @@
 -- Fragments that tile a scan, however it is cut. Assumes nothing.
-use Prim.Native.Nat.{ℕ, zero, suc, _≤_, _<_}
+use Prim.Native.Nat.{ℕ, zero, suc, _+_, _≤_, _<_}
 use mathlib.Core.List.{List, [], _∷_}
-use mathlib.Core.Path.{_≡_}
+use mathlib.Core.Path.{_≡_, refl, sym, ap}
+use native.Mathlib.Nat.{add-zero, add-assoc}
 use native.Mathlib.Omega.{arith}
-use lib.ListN.{length}
-use Rattle.fragments.specs.Fragments.{stop, at}
+use lib.ListN.{length, drop}
+use Rattle.laws.specs.Each.{Each}
+use Rattle.fragments.specs.Fragments.{stop, fragmentAt}
 use Rattle.fragments.specs.declared.Fragment.{Fragment}
 
 -- the marker of a fragment with these behind it
@@ -17,7 +19,32 @@ abbrev pub Tiles : ℕ → List Fragment → ℕ → Type 0
 Tiles start [] end = start ≡ end
 Tiles start (c ∷ cs) end = (c .offset ≡ start) × (1 ≤ c .length) × (c .marker ≡ markerBefore cs) × Tiles (stop c) cs end
 
+-- Fragments of these lengths, one after the other from an offset on, the last with the marker.
+abbrev pub isLast : List ℕ → ℕ
+isLast [] = 1
+isLast (n ∷ lengths) = 0
+
+abbrev pub laid : ℕ → List ℕ → List Fragment
+laid offset [] = []
+laid offset (n ∷ lengths) = record { offset = offset; length = n; marker = isLast lengths } ∷ laid (offset + n) lengths
+
+abbrev pub sum : List ℕ → ℕ
+sum [] = 0
+sum (n ∷ lengths) = n + sum lengths
+
 -- ---- laws
+
+last-laid : (offset : ℕ) (lengths : List ℕ) → isLast lengths ≡ markerBefore (laid offset lengths)
+last-laid offset [] = refl
+last-laid offset (n ∷ lengths) = refl
+
+pub laid-tiles : (offset : ℕ) (lengths : List ℕ) → Each (λ (n : ℕ). 1 ≤ n) lengths → Tiles offset (laid offset lengths) (offset + sum lengths)
+laid-tiles offset [] some = sym (add-zero offset)
+laid-tiles offset (n ∷ lengths) some = (refl, some .0, last-laid (offset + n) lengths, rw (add-assoc offset n (sum lengths)) at (laid-tiles (offset + n) lengths (some .1)))
+
+pub length-laid : (offset : ℕ) (lengths : List ℕ) → length (laid offset lengths) ≡ length lengths
+length-laid offset [] = refl
+length-laid offset (n ∷ lengths) = ap suc (length-laid (offset + n) lengths)
 
 -- what is known of one of them
 pub record Inside (start end : ℕ) (c : Fragment) : Type 0 where
@@ -34,7 +61,7 @@ tiles-forward : (start : ℕ) (cs : List Fragment) (end : ℕ) → Tiles start c
 tiles-forward start [] end t = omega arith
 tiles-forward start (c ∷ cs) end t = omega (arith, tiles-forward (stop c) cs end (t .3))
 
-pub tiles-inside : (start : ℕ) (cs : List Fragment) (end k : ℕ) → Tiles start cs end → k < length cs → Inside start end (at cs k)
+pub tiles-inside : (start : ℕ) (cs : List Fragment) (end k : ℕ) → Tiles start cs end → k < length cs → Inside start end (fragmentAt cs k)
 tiles-inside start [] end k t h = absurd (omega arith)
 tiles-inside start (c ∷ cs) end zero t h = record {
   from = omega arith;
@@ -46,15 +73,8 @@ tiles-inside start (c ∷ cs) end (suc k) t h =
     let i = tiles-inside (stop c) cs end k (t .3) (omega arith) in
     record { from = omega (arith, i .from); some = i .some; to = i .to; marker = i .marker }
 
--- the marker is on the last alone
-pub last-marked : (start : ℕ) (cs : List Fragment) (end k : ℕ) → Tiles start cs end → suc k ≡ length cs → at cs k .marker ≡ 1
-last-marked start [] end k t h = absurd (omega arith)
-last-marked start (c ∷ []) end zero t h = t .2
-last-marked start (c ∷ d ∷ cs) end zero t h = absurd (omega arith)
-last-marked start (c ∷ cs) end (suc k) t h = last-marked (stop c) cs end k (t .3) (omega arith)
-
-pub others-unmarked : (start : ℕ) (cs : List Fragment) (end k : ℕ) → Tiles start cs end → suc k < length cs → at cs k .marker ≡ 0
-others-unmarked start [] end k t h = absurd (omega arith)
-others-unmarked start (c ∷ []) end zero t h = absurd (omega arith)
-others-unmarked start (c ∷ d ∷ cs) end zero t h = t .2
-others-unmarked start (c ∷ cs) end (suc k) t h = others-unmarked (stop c) cs end k (t .3) (omega arith)
+-- the marker is on the last alone, behind which nothing comes
+pub tiles-marker : (start : ℕ) (cs : List Fragment) (end k : ℕ) → Tiles start cs end → k < length cs → fragmentAt cs k .marker ≡ markerBefore (drop (suc k) cs)
+tiles-marker start [] end k t h = absurd (omega arith)
+tiles-marker start (c ∷ cs) end zero t h = t .2
+tiles-marker start (c ∷ cs) end (suc k) t h = tiles-marker (stop c) cs end k (t .3) (omega arith)

@@ -3,7 +3,7 @@ ghost use Rattle.sender.specs.Picture.{picture};
 ghost use Rattle.sender.specs.Sending.{Sends};
 ghost use Rattle.tables.specs.MakeTables.{MakesTables};
 use replies::Written;
-use sender::Stream;
+use sender::Stamp;
 use wire::Header;
 
 #[no_mangle]
@@ -51,10 +51,10 @@ pub extern "C" fn lj_packet(
         height,
         interval,
     };
-    let stream = Stream {
+    let stamp = Stamp {
         start,
         time,
         source,
     };
-    sender::packet(header, tables, scan, size, stream, k, out)
+    sender::packet(header, tables, scan, size, stamp, k, out)
 }

@@ -2,7 +2,7 @@
 use Prim.Native.Nat.{ℕ}
 use mathlib.Core.Bool.{Bool, true, false}
 use mathlib.Core.List.{List, [], _∷_, _++_}
-use mathlib.Core.Path.{_≡_, refl, sym, _∙_}
+use mathlib.Core.Path.{_≡_, refl, sym, subst, _∙_}
 use lib.ListN.{drop}
 use native.Mathlib.Omega.{arith}
 use Rattle.laws.specs.Each.{Each}
@@ -77,3 +77,13 @@ unfolding judged
 all-hold [] e = tt
 all-hold ((n when true) ∷ checks) e = absurd (never-refused (sym e))
 all-hold ((n when false) ∷ checks) e = (refl, all-hold checks e)
+
+-- what each of the numbers has, the number of a refusal has
+abbrev pub Numbered : (ℕ → Type 0) → Check → Type 0
+Numbered P (n when b) = P n
+
+pub refused-by : (P : ℕ → Type 0) (checks : List Check) {n : ℕ} → Each (Numbered P) checks → judged checks ≡ Refused n → P n
+unfolding judged
+refused-by P [] a e = absurd (never-refused e)
+refused-by P ((m when true) ∷ checks) {n} a e = let same : m ≡ n = cc in subst P same (a .0)
+refused-by P ((m when false) ∷ checks) a e = refused-by P checks (a .1) e

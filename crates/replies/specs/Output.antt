@@ -6,7 +6,9 @@ use mathlib.Core.Path.{_≡_, refl, sym, ap, _∙_}
 use native.Mathlib.Omega.{arith}
 use borrow.Author.Tests.{lt-ltb, le-ltb}
 use lib.Dec.{ltb}
-use lib.ListN.{length, drop}
+use lib.ListN.{length, take, drop}
+use lib.Seq.{take-append-seam}
+use Rattle.laws.specs.Truth.{split}
 use Rattle.replies.specs.Reply
 use Rattle.replies.specs.declared.Judged.{Judged}
 use Rattle.replies.specs.declared.Judged.the-variants.{Passed, Refused}
@@ -60,6 +62,37 @@ refusal-leaves {short} {d} {before} {w} {after} a refuses = go (fitted short bef
     go : (f : Decision) → w ≡ answerOf f → after ≡ outputOf before f → (w .length ≡ 0) × (after ≡ before)
     go (refuse n) e o = (ap (λ (x : Written). x .length) e, o)
     go (write bytes) e o = absurd (refuses (ap (λ (x : Written). x .reply) e))
+
+-- what checks decided tells what they came to
+pub decided-write : (j : Judged) (x : List ℕ) {bytes : List ℕ} → decided j x ≡ write bytes → (j ≡ Passed) × (x ≡ bytes)
+decided-write Passed x e = (refl, cc)
+decided-write (Refused n) x e = absurd (let z : _≡_ {A = ℕ} 0 1 = cc in omega arith)
+
+pub decided-refuse : (j : Judged) (x : List ℕ) {n : ℕ} → decided j x ≡ refuse n → j ≡ Refused n
+decided-refuse Passed x e = absurd (let z : _≡_ {A = ℕ} 0 1 = cc in omega arith)
+decided-refuse (Refused n) x e = cc
+
+-- an answer of success has written the bytes, where no refusal has that number
+pub record Wrote (d : Decision) (before : List ℕ) (w : Written) (after : List ℕ) : Type 0 where
+  pub bytes : List ℕ
+  pub decision : d ≡ write bytes
+  pub long : w .length ≡ length bytes
+  pub output : after ≡ bytes ++ drop (length bytes) before
+
+pub success-wrote : {short : ℕ} {d : Decision} {before : List ℕ} {w : Written} {after : List ℕ} → Writes short d before w after → w .reply ≡ Reply.success → (short ≡ Reply.success → ⊥) → ((n : ℕ) → d ≡ refuse n → n ≡ Reply.success → ⊥) → Wrote d before w after
+success-wrote {short} {d} {before} {w} {after} a success full refuses = go d (a .answer) (a .output) refuses
+  where
+    go : (d : Decision) → w ≡ answerOf (fitted short before d) → after ≡ outputOf before (fitted short before d) → ((n : ℕ) → d ≡ refuse n → n ≡ Reply.success → ⊥) → Wrote d before w after
+    go (refuse n) e o never = absurd (never n refl (sym (ap (λ (x : Written). x .reply) e) ∙ success))
+    go (write bytes) e o never =
+        split (ltb (length before) (length bytes))
+        (λ t. absurd (full (sym (ap (λ (x : Written). x .reply) (rw t at e)) ∙ success)))
+        (λ t. record { bytes = bytes; decision = refl; long = ap (λ (x : Written). x .length) (rw t at e); output = rw t at o })
+
+pub wrote-front : {d : Decision} {before : List ℕ} {w : Written} {after : List ℕ} (t : Wrote d before w after) → take (w .length) after ≡ t .bytes
+wrote-front {d} {before} {w} {after} t =
+    let past = drop (length (t .bytes)) before in
+    ap (λ (l : List ℕ). take (w .length) l) (t .output) ∙ ap (λ (n : ℕ). take n (t .bytes ++ past)) (t .long) ∙ take-append-seam (t .bytes) past
 
 pub writes-refused : {short n : ℕ} {before : List ℕ} {w : Written} → w ≡ refused n → Writes short (refuse n) before w before
 writes-refused e = record { answer = e; output = refl }

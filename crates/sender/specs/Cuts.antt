@@ -3,68 +3,87 @@ use Prim.Native.Nat.{ℕ, zero, suc, _+_, _-_, _≤_, _<_}
 use mathlib.Core.Bool.{cond}
 use mathlib.Core.List.{List, [], _∷_}
 use mathlib.Core.Path.{_≡_, refl}
+use native.Mathlib.Nat.{zero-add}
 use native.Mathlib.Omega.{arith}
 use borrow.Author.Tests.{leb-true, leb-false}
 use lib.Dec.{leb}
 use lib.ListN.{length}
-use Rattle.fragments.specs.Fragments.{at}
-use Rattle.fragments.specs.Tiles.{Tiles, markerBefore}
+use Rattle.fragments.specs.Fragments.{fragmentAt}
+use Rattle.fragments.specs.Tiles.{Tiles, laid, sum, laid-tiles}
 use Rattle.fragments.specs.declared.Fragment.{Fragment}
+use Rattle.laws.specs.Each.{Each}
 use Rattle.laws.specs.Truth.{split}
 use Rattle.wire.specs.Rtp.{fixedEnd}
-use Rattle.sender.specs.Packet.{jpegHeaders}
+use Rattle.sender.specs.Fit.{Fit, few-tables}
+use Rattle.sender.specs.Packet.{jpegHeaders, restart-small, tables-small, length-headers, notByIntervals}
 use Rattle.sender.specs.Picture.{Picture}
 
--- The scan bytes that a packet has room for at an offset, beside the headers that are due there.
-unfoldable pub room : ℕ → Picture → ℕ → ℕ
-room size p offset = size - (fixedEnd + length (jpegHeaders (p .header) (p .tables) offset))
+-- The scan bytes that a packet holds at an offset, beside the headers that are due there.
+unfoldable pub capacity : ℕ → Picture → ℕ → ℕ
+capacity size p offset = size - (fixedEnd + length (jpegHeaders (p .header) (p .tables) offset))
 
--- Each packet is filled; the last takes what remains, and alone has the marker. These are the cuts from an offset on, of what remains;
--- n is no smaller than their number, each being of 1 byte or more.
-abbrev pub filled : (ℕ → ℕ) → ℕ → ℕ → ℕ → List Fragment
-filled room zero offset remains = []
-filled room (suc n) offset remains =
-    cond (leb remains (room offset))
-    (record { offset = offset; length = remains; marker = 1 } ∷ [])
-    (record { offset = offset; length = room offset; marker = 0 } ∷ filled room n (offset + room offset) (remains - room offset))
+-- Each packet is filled, and the last takes what remains: how many scan bytes go into each, from an offset on, where so many bytes
+-- remain and a packet holds so many at each offset. The first number only bounds the recursion: it is no smaller than what remains.
+abbrev pub shares : ℕ → (ℕ → ℕ) → ℕ → ℕ → List ℕ
+shares zero holds offset remains = []
+shares (suc n) holds offset remains =
+    cond (leb remains (holds offset))
+    (remains ∷ [])
+    (holds offset ∷ shares n holds (offset + holds offset) (remains - holds offset))
 
 unfoldable pub cuts : ℕ → Picture → List Fragment
-cuts size p = filled (room size p) (length (p .scan)) 0 (length (p .scan))
+cuts size p = laid 0 (shares (length (p .scan)) (capacity size p) 0 (length (p .scan)))
 
 -- ---- laws
 
-module _ (room : ℕ → ℕ) where
-  not-last : (n offset remains : ℕ) → 1 ≤ n → markerBefore (filled room n offset remains) ≡ 0
-  not-last zero offset remains h = absurd (omega arith)
-  not-last (suc n) offset remains h = split (leb remains (room offset)) (λ e. rw e) (λ e. rw e)
+module _ (holds : ℕ → ℕ) (some : (offset : ℕ) → 1 ≤ holds offset) where
+  shares-some : (n offset remains : ℕ) → 1 ≤ remains → remains ≤ n → Each (λ (m : ℕ). 1 ≤ m) (shares n holds offset remains)
+  shares-some zero offset remains h g = tt
+  shares-some (suc n) offset remains h g =
+      split (leb remains (holds offset))
+      (λ e. rw e (h, tt))
+      (λ e. let over = leb-false remains (holds offset) e in rw e (some offset, shares-some n (offset + holds offset) (remains - holds offset) (omega arith) (omega (arith, some offset))))
 
-  pub filled-tiles : ((offset : ℕ) → 1 ≤ room offset) → (n offset remains : ℕ) → 1 ≤ remains → remains ≤ n → Tiles offset (filled room n offset remains) (offset + remains)
-  filled-tiles some zero offset remains h g = absurd (omega arith)
-  filled-tiles some (suc n) offset remains h g =
-      split (leb remains (room offset))
-      (λ e. rw e (refl, h, refl, refl))
+  shares-sum : (n offset remains : ℕ) → 1 ≤ remains → remains ≤ n → sum (shares n holds offset remains) ≡ remains
+  shares-sum zero offset remains h g = absurd (omega arith)
+  shares-sum (suc n) offset remains h g =
+      split (leb remains (holds offset))
+      (λ e. rw e (omega arith))
+      (λ e. let over = leb-false remains (holds offset) e in rw e (omega (arith, shares-sum n (offset + holds offset) (remains - holds offset) (omega arith) (omega (arith, some offset)))))
+
+-- no fragment is more than its packet holds, and any but the last is as much
+module _ (holds : ℕ → ℕ) where
+  pub record Filled (cs : List Fragment) (k : ℕ) : Type 0 where
+    pub most : fragmentAt cs k .length ≤ holds (fragmentAt cs k .offset)
+    pub all : suc k < length cs → fragmentAt cs k .length ≡ holds (fragmentAt cs k .offset)
+
+  shares-filled : (n offset remains k : ℕ) → k < length (laid offset (shares n holds offset remains)) → Filled (laid offset (shares n holds offset remains)) k
+  shares-filled zero offset remains k h = absurd (omega arith)
+  shares-filled (suc n) offset remains zero h =
+      split (leb remains (holds offset))
+      (λ e. rw e (record { most = leb-true remains (holds offset) e; all = λ more. absurd (omega arith) }))
+      (λ e. rw e (record { most = omega arith; all = λ more. refl }))
+  shares-filled (suc n) offset remains (suc k) h =
+      split (leb remains (holds offset))
+      (λ e. absurd (let g = rw e at h in omega arith))
       (λ e.
-      let over = leb-false remains (room offset) e in
-      let on = filled-tiles some n (offset + room offset) (remains - room offset) (omega arith) (omega (arith, some offset)) in
-      let end : offset + room offset + (remains - room offset) ≡ offset + remains = omega arith in
-      rw e (refl, some offset, rw (not-last n (offset + room offset) (remains - room offset) (omega (arith, some offset))), rw end at on))
+      let g = rw e at h in
+      let f = shares-filled n (offset + holds offset) (remains - holds offset) k (omega arith) in
+      rw e (record { most = f .most; all = λ more. f .all (omega arith) }))
 
-  -- no cut is more than its packet has room for, and any but the last is as much
-  pub filled-room : (n offset remains k : ℕ) → k < length (filled room n offset remains) → at (filled room n offset remains) k .length ≤ room (at (filled room n offset remains) k .offset)
-  filled-room zero offset remains k h = absurd (omega arith)
-  filled-room (suc n) offset remains zero h = split (leb remains (room offset)) (λ e. rw e (leb-true remains (room offset) e)) (λ e. rw e (omega arith))
-  filled-room (suc n) offset remains (suc k) h =
-      split (leb remains (room offset))
-      (λ e. absurd (let g = rw e at h in omega arith))
-      (λ e. rw e (filled-room n (offset + room offset) (remains - room offset) k (let g = rw e at h in omega arith)))
+module _ {p : Picture} {size : ℕ} (fit : Fit p size) where
+  pub some-capacity : (offset : ℕ) → 1 ≤ capacity size p offset
+  unfolding capacity
+  some-capacity offset = omega (arith, fit .packet-size, length-headers (p .header) (p .tables) offset, restart-small (p .header) notByIntervals, tables-small (p .header) (p .tables) offset (few-tables fit))
 
-  pub filled-full : (n offset remains k : ℕ) → suc k < length (filled room n offset remains) → at (filled room n offset remains) k .length ≡ room (at (filled room n offset remains) k .offset)
-  filled-full zero offset remains k h = absurd (omega arith)
-  filled-full (suc n) offset remains zero h =
-      split (leb remains (room offset))
-      (λ e. absurd (let g = rw e at h in omega arith))
-      (λ e. rw e)
-  filled-full (suc n) offset remains (suc k) h =
-      split (leb remains (room offset))
-      (λ e. absurd (let g = rw e at h in omega arith))
-      (λ e. rw e (filled-full n (offset + room offset) (remains - room offset) k (let g = rw e at h in omega arith)))
+  pub cuts-tile : Tiles 0 (cuts size p) (length (p .scan))
+  unfolding cuts
+  cuts-tile =
+      let n = length (p .scan) in
+      let parts = shares n (capacity size p) 0 n in
+      let t = laid-tiles 0 parts (shares-some (capacity size p) some-capacity n 0 n (fit .scan .0) (omega arith)) in
+      rw (zero-add (sum parts), shares-sum (capacity size p) some-capacity n 0 n (fit .scan .0) (omega arith)) at t
+
+  pub cuts-filled : (k : ℕ) → k < length (cuts size p) → Filled (capacity size p) (cuts size p) k
+  unfolding cuts
+  cuts-filled k h = shares-filled (capacity size p) (length (p .scan)) 0 (length (p .scan)) k h

@@ -1,7 +1,8 @@
 pub mod Picture
+pub mod Fit
 pub mod Packet
+pub mod PacketBytes
 pub mod Cuts
 pub mod Sending
-pub mod Accepted
 pub mod ReadBack
 pub mod Sent

@@ -1,51 +1,87 @@
--- The packets of a picture that the sender takes: its cuts tile the scan, every packet but the last is filled, and the reader gives
--- back what was sent. Assumes nothing.
-use Prim.Native.Nat.{ℕ, suc, _^_, _≤_, _<_}
-use mathlib.Core.Path.{_≡_}
-use native.Mathlib.Nat.{zero-add}
+-- The packets of a picture that the sender takes. Assumes nothing.
+use Prim.Native.Nat.{ℕ, suc, _+_, _^_, _≤_, _<_}
+use mathlib.Core.List.{List}
+use mathlib.Core.Path.{_≡_, sym, _∙_}
 use native.Mathlib.Omega.{arith}
-use lib.ListN.{length}
-use Rattle.fragments.specs.Fragments.{at}
-use Rattle.fragments.specs.Tiles.{Tiles, Inside, tiles-inside}
-use Rattle.sender.specs.Accepted.{Fit, Accepted, few-tables}
-use Rattle.sender.specs.Cuts.{room, cuts, filled-tiles, filled-room, filled-full}
-use Rattle.sender.specs.Packet.{packet, restart-small, tables-small, length-headers, length-packet}
+use lib.ListN.{length, take}
+use Rattle.fragments.specs.Fragments.{fragmentAt}
+use Rattle.fragments.specs.Tiles.{Inside, tiles-inside}
+use Rattle.fragments.specs.declared.Fragment.{Fragment}
+use Rattle.laws.specs.Each.{Each}
+use Rattle.replies.specs.Checks.{Numbered, judged, refused-by}
+use Rattle.replies.specs.Output.{decided-write, decided-refuse, success-wrote, wrote-front}
+use Rattle.replies.specs.Reply
+use Rattle.replies.specs.declared.Written.{Written}
+use Rattle.sender.specs.Cuts.{capacity, cuts, some-capacity, cuts-tile, cuts-filled}
+use Rattle.sender.specs.Fit.{Fit}
+use Rattle.sender.specs.Packet.{packet, scanBegins, length-packet}
 use Rattle.sender.specs.Picture.{Picture}
-use Rattle.sender.specs.ReadBack.{ReadBack, tiled-read-back}
-use Rattle.sender.specs.declared.Stream.{Stream}
+use Rattle.sender.specs.ReadBack.{Cut, ReadBack, cut-read-back}
+use Rattle.sender.specs.Sending.{checks, sending, Sends, Accepted, accepted}
+use Rattle.sender.specs.declared.Stamp.{Stamp}
 
 module _ {p : Picture} {size : ℕ} (fit : Fit p size) where
-  some-room : (offset : ℕ) → 1 ≤ room size p offset
-  unfolding room
-  some-room offset = omega (arith, fit .packets, length-headers (p .header) (p .tables) offset, restart-small (p .header), tables-small (p .header) (p .tables) offset (few-tables fit))
+  -- a packet with no more scan bytes than it holds is no longer than the packet size, and with as many it is as long
+  module _ (c : Fragment) where
+    size-kept : c .length ≤ capacity size p (c .offset) → scanBegins p c + c .length ≤ size
+    unfolding capacity
+    size-kept h = omega (arith, some-capacity fit (c .offset))
 
-  pub cuts-tile : Tiles 0 (cuts size p) (length (p .scan))
-  unfolding cuts
-  cuts-tile = rw (zero-add (length (p .scan))) at (filled-tiles (room size p) some-room (length (p .scan)) 0 (length (p .scan)) (fit .scan .0) (omega arith))
+    size-filled : c .length ≡ capacity size p (c .offset) → scanBegins p c + c .length ≡ size
+    unfolding capacity
+    size-filled e = omega (arith, some-capacity fit (c .offset))
 
   module _ (k : ℕ) (index : k < length (cuts size p)) where
-    pub cut-inside : Inside 0 (length (p .scan)) (at (cuts size p) k)
-    cut-inside = tiles-inside 0 (cuts size p) (length (p .scan)) k cuts-tile index
+    pub cut-inside : Inside 0 (length (p .scan)) (fragmentAt (cuts size p) k)
+    cut-inside = tiles-inside 0 (cuts size p) (length (p .scan)) k (cuts-tile fit) index
+
+    cut-size : scanBegins p (fragmentAt (cuts size p) k) + fragmentAt (cuts size p) k .length ≤ size
+    cut-size = size-kept (fragmentAt (cuts size p) k) (cuts-filled fit k index .most)
 
     -- no packet is longer than the packet size, and every packet but the last is as long
-    pub packet-fits : (s : Stream) → length (packet s p k (at (cuts size p) k)) ≤ size
-    unfolding cuts room
-    packet-fits s =
-        let c = at (cuts size p) k in
-        omega (arith, length-packet s p k c (cut-inside .to), filled-room (room size p) (length (p .scan)) 0 (length (p .scan)) k index, some-room (c .offset))
+    module _ (s : Stamp) where
+      pub packet-fits : length (packet s p k (fragmentAt (cuts size p) k)) ≤ size
+      packet-fits = rw (length-packet s p k (fragmentAt (cuts size p) k) (cut-inside .to)) cut-size
 
-    pub packet-full : (s : Stream) → suc k < length (cuts size p) → length (packet s p k (at (cuts size p) k)) ≡ size
-    unfolding cuts room
-    packet-full s more =
-        let c = at (cuts size p) k in
-        omega (arith, length-packet s p k c (cut-inside .to), filled-full (room size p) (length (p .scan)) 0 (length (p .scan)) k more, some-room (c .offset))
+      pub packet-full : suc k < length (cuts size p) → length (packet s p k (fragmentAt (cuts size p) k)) ≡ size
+      packet-full more = rw (length-packet s p k (fragmentAt (cuts size p) k) (cut-inside .to)) (size-filled (fragmentAt (cuts size p) k) (cuts-filled fit k index .all more))
 
--- Read back: packet k of the picture, with the time stamp and the source that it bears.
-pub sent-read-back : (s : Stream) (p : Picture) (size k : ℕ) → Accepted p size k → s .time < 2 ^ 32 → s .source < 2 ^ 32 → ReadBack s p (at (cuts size p) k) (packet s p k (at (cuts size p) k))
-sent-read-back s p size k ok time source =
-    tiled-read-back s p (cuts size p) k
-    (record { header = ok .fit .header; tables = ok .fit .tables; time = time; source = source })
-    (cuts-tile (ok .fit))
-    (omega (arith, ok .fit .scan))
-    (ok .index)
-    (omega (arith, packet-fits (ok .fit) k (ok .index) s, ok .fit .packets))
+-- The sender's own cuts are such as any picture may be cut by.
+module _ (s : Stamp) (p : Picture) (size k : ℕ) (ok : Accepted p size k) (time : s .time < 2 ^ 32) (source : s .source < 2 ^ 32) where
+  pub sent-cut : Cut s p (cuts size p)
+  sent-cut = record {
+    sendable = record { header = ok .fit .header; tables = ok .fit .tables; time = time; source = source };
+    tiles = cuts-tile (ok .fit);
+    few = ok .few;
+    reach = omega (arith, ok .fit .scan);
+    short = λ j index. omega (arith, cut-size (ok .fit) j index, ok .fit .packet-size);
+  }
+
+  -- Read back: packet k, with the stamp that it bears.
+  pub sent-read-back : ReadBack s p (fragmentAt (cuts size p) k) (packet s p k (fragmentAt (cuts size p) k))
+  sent-read-back = cut-read-back sent-cut k (ok .index)
+
+-- A call that succeeds was asked for a packet of a picture that is taken, and leaves that packet in front.
+pub record Sent (p : Picture) (size : ℕ) (s : Stamp) (k : ℕ) (w : Written) (after : List ℕ) : Type 0 where
+  pub ok : Accepted p size k
+  pub front : take (w .length) after ≡ packet s p k (fragmentAt (cuts size p) k)
+
+-- no refusal has the number of success
+numbered : (p : Picture) (size k : ℕ) → Each (Numbered (λ (n : ℕ). n ≡ Reply.success → ⊥)) (checks p size k)
+numbered p size k = (λ e. omega arith, (λ e. omega arith, (λ e. omega arith, (λ e. omega arith, (λ e. omega arith, (λ e. omega arith, tt))))))
+
+module _ (p : Picture) (size : ℕ) (s : Stamp) (k : ℕ) {before : List ℕ} {w : Written} {after : List ℕ} (sends : Sends p size s k before w after) (success : w .reply ≡ Reply.success) where
+  pub sent : Sent p size s k w after
+  unfolding sending
+  sent =
+      let j = judged (checks p size k) in
+      let bytes = packet s p k (fragmentAt (cuts size p) k) in
+      let t = success-wrote sends success (λ e. omega arith) (λ n e z. refused-by (λ (n : ℕ). n ≡ Reply.success → ⊥) (checks p size k) (numbered p size k) (decided-refuse j bytes e) z) in
+      let d = decided-write j bytes (t .decision) in
+      record {
+        ok = accepted p size k (d .0);
+        front = wrote-front t ∙ sym (d .1);
+      }
+
+  pub success-read-back : s .time < 2 ^ 32 → s .source < 2 ^ 32 → ReadBack s p (fragmentAt (cuts size p) k) (take (w .length) after)
+  success-read-back time source = rw (sent .front) (sent-read-back s p size k (sent .ok) time source)

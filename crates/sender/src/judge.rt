@@ -3,12 +3,12 @@ ghost use mathlib.Core.Path.{_≡_};
 ghost use lib.ListN.{length};
 ghost use Rattle.replies.specs.Checks.{judged};
 ghost use Rattle.wire.specs.TableSource.{tableSource};
-ghost use Rattle.sender.specs.Accepted.{Fit};
+ghost use Rattle.sender.specs.Fit.{Fit, pictureChecks, tablesFit};
 ghost use Rattle.sender.specs.Cuts.{cuts};
 ghost use Rattle.sender.specs.Picture.{picture};
-ghost use Rattle.sender.specs.Sending.{checks, pictureChecks, cutChecks, tablesFit};
-use crate::cut::room_behind;
-use crate::cut::taken_by_tables;
+ghost use Rattle.sender.specs.Sending.{checks, cutChecks};
+use crate::cut::capacity_behind;
+use crate::headers::taken_by_tables;
 use replies::INDEX_TOO_LARGE;
 use replies::Judged;
 use replies::OVER_64_PACKETS;
@@ -66,17 +66,17 @@ fn tables_fit(q: u32, tables: &[u8]) -> bool
     }
 }
 
-// There are more than n packets where the scan and what the tables take of the first are more than n rooms.
+// There are more than n packets where the scan, and what the table header takes of the first packet, are more than n packets hold.
 fn judge_cuts(header: Header, tables: &[u8], scan: &[u8], size: u32, k: u32) -> Judged
     requires { ⌜ Fit (picture header (now tables) (now scan)) size ⌝ }
     ensures { λ r. ⌜ r ≡ judged (cutChecks (length (cuts size (picture header (now (tables .entry)) (now (scan .entry))))) k) ⌝ }
 {
-    let room = room_behind(header, size);
+    let capacity = capacity_behind(header, size);
     let all = taken_by_tables(header, tables) + scan.len();
-    if 64 * room < all {
+    if 64 * capacity < all {
         return Judged::Refused(OVER_64_PACKETS);
     }
-    if all <= k as usize * room {
+    if all <= k as usize * capacity {
         return Judged::Refused(INDEX_TOO_LARGE);
     }
     Judged::Passed

@@ -1,12 +1,13 @@
 // The packets of a picture: the sender of JPEG scan data in RTP packets.
 mod cut;
+mod headers;
 mod judge;
 mod write;
 
 ghost use Rattle.sender.specs.Picture.{picture};
 ghost use Rattle.sender.specs.Sending.{Sends};
 use crate::cut::cut_at;
-use crate::cut::headers_length;
+use crate::headers::headers_length;
 use crate::judge::judge;
 use crate::write::put_packet;
 use replies::Judged;
@@ -14,8 +15,9 @@ use replies::PACKET_OUTPUT;
 use replies::Written;
 use wire::Header;
 
-// What RTP needs beside the picture: the sequence number of its first packet, its time stamp, and the source.
-pub struct Stream {
+// What RTP stamps on the packets of a picture: the sequence number, which is that of the first packet and counts on from there, the
+// picture's time stamp, and the source.
+pub struct Stamp {
     pub start: u16,
     pub time: u32,
     pub source: u32,
@@ -28,11 +30,11 @@ pub fn packet(
     tables: &[u8],
     scan: &[u8],
     size: u32,
-    stream: Stream,
+    stamp: Stamp,
     k: u32,
     out: &mut [u8],
 ) -> Written
-    ensures { λ w. ⌜ Sends (picture header (now (tables .entry)) (now (scan .entry))) size stream k (now (out .entry)) w (now (out .exit)) ⌝ }
+    ensures { λ w. ⌜ Sends (picture header (now (tables .entry)) (now (scan .entry))) size stamp k (now (out .entry)) w (now (out .exit)) ⌝ }
 {
     if let Judged::Refused(number) = judge(header, tables, scan, size, k) {
         return Written::refusal(number);
@@ -42,6 +44,6 @@ pub fn packet(
     if out.len() < length {
         return Written::refusal(PACKET_OUTPUT);
     }
-    put_packet(stream, header, tables, scan, k, cut, out);
+    put_packet(stamp, header, tables, scan, k, cut, out);
     Written::success(length as u32)
 }

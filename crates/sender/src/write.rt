@@ -9,16 +9,16 @@ ghost use Rattle.laws.specs.Spelled.{spelled};
 ghost use Rattle.wire.specs.Lawful.{Lawful};
 ghost use Rattle.sender.specs.Packet as Packet;
 ghost use Rattle.sender.specs.Picture.{picture};
-use crate::Stream;
-use crate::cut::has_restart;
-use crate::cut::has_table_header;
-use crate::cut::headers_length;
-use crate::cut::restart_length;
+use crate::Stamp;
+use crate::headers::RESTART_AT;
+use crate::headers::headers_length;
+use crate::headers::restart_length;
+use crate::headers::taken_by_tables;
 use fragments::Fragment;
 use wire::Header;
 
 pub(crate) fn put_packet(
-    stream: Stream,
+    stamp: Stamp,
     header: Header,
     tables: &[u8],
     scan: &[u8],
@@ -28,10 +28,10 @@ pub(crate) fn put_packet(
 )
     requires { ⌜ Lawful header × (length (now tables) ≤ 128) × (k < 2 ^ 16) ⌝ }
     requires { ⌜ (cut .marker ≤ 1) × (cut .offset < 2 ^ 24) × (stop cut ≤ length (now scan)) ⌝ }
-    requires { ⌜ length (Packet.packet stream (picture header (now tables) (now scan)) k cut) ≤ length (now out) ⌝ }
-    ensures { λ _. ⌜ Puts (now (out .entry)) 0 (Packet.packet stream (picture header (now (tables .entry)) (now (scan .entry))) k cut) (now (out .exit)) ⌝ }
+    requires { ⌜ length (Packet.packet stamp (picture header (now tables) (now scan)) k cut) ≤ length (now out) ⌝ }
+    ensures { λ _. ⌜ Puts (now (out .entry)) 0 (Packet.packet stamp (picture header (now (tables .entry)) (now (scan .entry))) k cut) (now (out .exit)) ⌝ }
 {
-    put_rtp(stream, k, cut.marker, out);
+    put_rtp(stamp, k, cut.marker, out);
     put_headers(header, tables, cut.offset, out);
     put_bytes(
         scan_of(scan, cut),
@@ -58,19 +58,25 @@ fn put_headers(header: Header, tables: &[u8], offset: u32, out: &mut [u8])
 {
     put_main(header, offset, out);
     put_restart(header, out);
-    put_tables(header, tables, offset, 20 + restart_length(header), out);
+    put_tables(
+        header,
+        tables,
+        offset,
+        RESTART_AT + restart_length(header),
+        out,
+    );
 }
 
 // Version 2, no padding, no extension, no CSRC; payload type 26.
-fn put_rtp(stream: Stream, k: u32, marker: u32, out: &mut [u8])
+fn put_rtp(stamp: Stamp, k: u32, marker: u32, out: &mut [u8])
     requires { ⌜ (k < 2 ^ 16) × (marker ≤ 1) × (12 ≤ length (now out)) ⌝ }
-    ensures { λ _. ⌜ Puts (now (out .entry)) 0 (Packet.rtpHeader stream k marker) (now (out .exit)) ⌝ }
+    ensures { λ _. ⌜ Puts (now (out .entry)) 0 (Packet.rtpHeader stamp k marker) (now (out .exit)) ⌝ }
 {
     put_u8(0x80, 0, out);
     put_u8((marker * 128 + 26) as u8, 1, out);
-    put_u16(std::num::wrapping_add_u16(stream.start, k as u16), 2, out);
-    put_u32(stream.time, 4, out);
-    put_u32(stream.source, 8, out);
+    put_u16(std::num::wrapping_add_u16(stamp.start, k as u16), 2, out);
+    put_u32(stamp.time, 4, out);
+    put_u32(stamp.source, 8, out);
 }
 
 // Type-specific 0.
@@ -96,14 +102,14 @@ fn put_fields(header: Header, out: &mut [u8])
 
 // F and L are 1 and the count is 0x3FFF: the scan is not cut by its restart intervals.
 fn put_restart(header: Header, out: &mut [u8])
-    requires { ⌜ Lawful header × (20 + length (Packet.restartHeader header) ≤ length (now out)) ⌝ }
-    ensures { λ _. ⌜ Puts (now (out .entry)) 20 (Packet.restartHeader header) (now (out .exit)) ⌝ }
+    requires { ⌜ Lawful header × (20 + length (Packet.restartHeader header Packet.notByIntervals) ≤ length (now out)) ⌝ }
+    ensures { λ _. ⌜ Puts (now (out .entry)) 20 (Packet.restartHeader header Packet.notByIntervals) (now (out .exit)) ⌝ }
 {
-    if !has_restart(header) {
+    if restart_length(header) == 0 {
         return;
     }
-    put_u16(header.interval as u16, 20, out);
-    put_u16(0xFFFF, 22, out);
+    put_u16(header.interval as u16, RESTART_AT, out);
+    put_u16(0xFFFF, RESTART_AT + 2, out);
 }
 
 // Zero byte and precision 0, the length, and the tables, in the first packet.
@@ -115,7 +121,7 @@ fn put_tables(header: Header, tables: &[u8], offset: u32, at: usize, out: &mut [
     if offset != 0 {
         return;
     }
-    if !has_table_header(header) {
+    if taken_by_tables(header, tables) == 0 {
         return;
     }
     put_u16(0, at, out);
@@ -136,16 +142,16 @@ fn put_u32(v: u32, at: usize, out: &mut [u8])
     requires { ⌜ at + 4 ≤ length (now out) ⌝ }
     ensures { λ _. ⌜ Puts (now (out .entry)) at (spelled 4 v) (now (out .exit)) ⌝ }
 {
-    put_u16((v / 65536) as u16, at, out);
-    put_u16((v % 65536) as u16, at + 2, out);
+    put_u24(v / 256, at, out);
+    put_u8((v % 256) as u8, at + 3, out);
 }
 
 fn put_u24(v: u32, at: usize, out: &mut [u8])
     requires { ⌜ (v < 2 ^ 24) × (at + 3 ≤ length (now out)) ⌝ }
     ensures { λ _. ⌜ Puts (now (out .entry)) at (spelled 3 v) (now (out .exit)) ⌝ }
 {
-    put_u8((v / 65536) as u8, at, out);
-    put_u16((v % 65536) as u16, at + 1, out);
+    put_u16((v / 256) as u16, at, out);
+    put_u8((v % 256) as u8, at + 2, out);
 }
 
 fn put_u16(v: u16, at: usize, out: &mut [u8])

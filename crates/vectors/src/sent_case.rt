@@ -7,7 +7,7 @@ use crate::text::begins;
 use crate::text::next_numbers;
 use crate::text::place_of;
 use crate::written::write_part;
-use sender::Stream;
+use sender::Stamp;
 use wire::Header;
 
 // The length of the case's first word.
@@ -73,11 +73,11 @@ fn send(n: [u32; 13], start: u16, tables: &[u8], scan: &[u8], out: &mut [u8]) ->
         height: n[3],
         interval: n[4],
     };
-    let stream = Stream {
+    let stamp = Stamp {
         start,
         time: n[7],
         source: n[8],
     };
-    let w = sender::packet(header, tables, scan, n[5], stream, n[9], out);
+    let w = sender::packet(header, tables, scan, n[5], stamp, n[9], out);
     write_part(w, out, n[11] as usize, n[12] as usize)
 }

@@ -2,10 +2,10 @@
 use Prim.Native.Nat.{ℕ, _≤_}
 use mathlib.Core.Bool.{Bool, true, false, not, _&&_}
 use mathlib.Core.Path.{_≡_, refl, sym}
-use borrow.Author.Tests.{ltb-true, ltb-false, eqb-true, not-true}
+use borrow.Author.Tests.{ltb-true, ltb-false, eqb-true, eq-eqb, not-true}
 use lib.Dec.{ltb, eqb}
 use Rattle.laws.specs.Truth.{split, never-both, and-true}
-use Rattle.laws.specs.Within.{within, Between, between}
+use Rattle.laws.specs.Within.{within, Between, is-within, between}
 use Rattle.wire.specs.Kind.{restartsOf, isNotCarried, arePresent, not-carried-from-66}
 use Rattle.wire.specs.TableSource.{tableSource, isReserved, reserved-from-256}
 use Rattle.wire.specs.declared.Header.{Header}
@@ -69,6 +69,17 @@ lawful h e =
       interval = present (h .interval) (restartsOf (h .kind)) (sides .1);
       no-interval = absent (h .interval) (restartsOf (h .kind)) (sides .1);
     }
+
+has-interval : (r : Restarts) (interval : ℕ) → isNotCarried r ≡ false → (arePresent r ≡ true → Between 1 65535 interval) → (arePresent r ≡ false → interval ≡ 0) → hasInterval r interval ≡ true
+has-interval Absent interval c some none = eq-eqb interval 0 (none refl)
+has-interval Present interval c some none = is-within 1 65535 interval (some refl .0) (some refl .1)
+has-interval NotCarried interval c some none = sym c
+
+pub is-lawful : (h : Header) → Lawful h → isLawful h ≡ true
+unfolding isLawful
+is-lawful h l =
+    rw (l .q, is-within 1 255 (h .width) (l .width .0) (l .width .1), is-within 1 255 (h .height) (l .height .0) (l .height .1))
+    (has-interval (restartsOf (h .kind)) (h .interval) (l .kind) (l .interval) (l .no-interval))
 
 -- each of them is a byte on the wire, but the interval
 module _ {h : Header} (l : Lawful h) where

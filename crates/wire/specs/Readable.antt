@@ -158,9 +158,7 @@ module _ (source : ℕ) (p : List ℕ) (s : Packet) (read : reading source p ≡
   pub read-scan : scanIn p s ≡ drop (scanAt (payload p)) (payload p)
   read-scan = let t = read-passes source p s read in rw (t .says) (scan-there p (t .rtp) (t .jpeg))
 
-  pub read-tables : (s .tables .length ≡ 0 → ⊥) → tablesIn p s ≡ tables (payload p)
-  unfolding said
-  read-tables some =
-      let t = read-passes source p s read in
-      let come = none-or-come (payload p) (t .jpeg .tables) in
-      rw (t .says) (⊎-elim (λ none. absurd (some (rw (t .says) none))) (λ c. tables-there p (t .rtp) (t .jpeg) c) come)
+  -- the tables of the table header, none where there is none
+  pub read-tables : tablesIn p s ≡ filledUp (tables (payload p))
+  unfolding tablesIn
+  read-tables = let t = read-passes source p s read in rw (t .says) (rw (part-there p (t .rtp) (t .jpeg)))

@@ -21,8 +21,11 @@ use Rattle.wire.specs.TableSource.{tableSource, isInBand, isAlwaysBrough
 --     |     zero      |   precision   |            length             |
 --     +---------------+---------------+-------------------------------+
 --     |                    `length` bytes of tables                   |
+abbrev pub tableHeaderDue : ℕ → ℕ → Bool
+tableHeaderDue offset q = eqb offset 0 && isInBand (tableSource q)
+
 unfoldable pub hasTableHeader : List ℕ → Bool
-hasTableHeader b = eqb (main b .offset) 0 && isInBand (tableSource (main b .q))
+hasTableHeader b = tableHeaderDue (main b .offset) (main b .q)
 
 abbrev pub alwaysBrought : List ℕ → Bool
 alwaysBrought b = isAlwaysBrought (tableSource (main b .q))

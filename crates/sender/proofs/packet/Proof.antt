@@ -6,18 +6,18 @@ use lib.ListN.{length}
 use mathlib.Core.List.{List}
 use mathlib.Core.Path.{_≡_, sym, _∙_}
 use native.Mathlib.Omega.{arith}
-use Rattle.fragments.specs.Fragments.{at}
+use Rattle.fragments.specs.Fragments.{fragmentAt}
 use Rattle.fragments.specs.Tiles.{Inside}
 use Rattle.laws.specs.Put.{puts-front}
 use Rattle.replies.specs.Output.{writes-refused, writes-short, writes-all}
 use Rattle.replies.specs.Output.Decision.{write}
 use Rattle.replies.specs.Checks.{judged}
 use Rattle.replies.specs.declared.Judged.the-variants.{Passed}
-use Rattle.sender.specs.Accepted.{Accepted, accepted, few-tables}
+use Rattle.sender.specs.Fit.{few-tables}
 use Rattle.sender.specs.Cuts.{cuts}
 use Rattle.sender.specs.Packet.{packet, length-headers, length-packet}
 use Rattle.sender.specs.Picture.{Picture, picture}
-use Rattle.sender.specs.Sending.{checks, sending}
+use Rattle.sender.specs.Sending.{Accepted, checks, sending, accepted}
 use Rattle.sender.specs.Sent.{cut-inside, packet-fits}
 use Rattle.sender.proofs.packet.Statement.{statement}
 use Rattle.sender.proofs.packet.Tie as tie
@@ -27,7 +27,7 @@ sent s = picture (s .args .header) (now (s .args .tables)) (now (s .args .scan))
 
 -- the packet that is asked for
 abbrev asked : tie.Start → List ℕ
-asked s = packet (s .args .stream) (sent s) (s .args .k) (at (cuts (s .args .size) (sent s)) (s .args .k))
+asked s = packet (s .args .stamp) (sent s) (s .args .k) (fragmentAt (cuts (s .args .size) (sent s)) (s .args .k))
 
 passed : (c : tie.After-enum-told) → let s = c .before .before .before .before .before .before in judged (checks (sent s) (s .args .size) (s .args .k)) ≡ Passed
 passed c = sym (c .before .before .judge .ensures) ∙ c .enum-told .given .1
@@ -35,7 +35,7 @@ passed c = sym (c .before .before .judge .ensures) ∙ c .enum-told .given .1
 ok : (c : tie.After-enum-told) → let s = c .before .before .before .before .before .before in Accepted (sent s) (s .args .size) (s .args .k)
 ok c = let s = c .before .before .before .before .before .before in accepted (sent s) (s .args .size) (s .args .k) (passed c)
 
-decides : (c : tie.After-enum-told) → let s = c .before .before .before .before .before .before in sending (sent s) (s .args .size) (s .args .stream) (s .args .k) ≡ write (asked s)
+decides : (c : tie.After-enum-told) → let s = c .before .before .before .before .before .before in sending (sent s) (s .args .size) (s .args .stamp) (s .args .k) ≡ write (asked s)
 unfolding sending
 decides c = rw (passed c)
 
@@ -46,13 +46,13 @@ fits : (c : tie.After-cut-at) → length (asked (c .before .before .before .befo
 fits c =
     let s = c .before .before .before .before .before .before .before in
     let a = ok (c .before) in
-    omega (arith, packet-fits (a .fit) (s .args .k) (a .index) (s .args .stream), a .fit .packets)
+    omega (arith, packet-fits (a .fit) (s .args .k) (a .index) (s .args .stamp), a .fit .packet-size)
 
 long : (c : tie.After-headers-length) → length (asked (c .before .before .before .before .before .before .before .before)) ≡ c .headers-length .result + c .before .cut-at .result .length
 long c =
     let s = c .before .before .before .before .before .before .before .before in
     let f = c .before .cut-at .result in
-    rw (← c .before .cut-at .ensures) (omega (arith, length-packet (s .args .stream) (sent s) (s .args .k) f (inside (c .before) .to), length-headers (s .args .header) (now (s .args .tables)) (f .offset), c .headers-length .ensures))
+    rw (← c .before .cut-at .ensures) (omega (arith, length-packet (s .args .stamp) (sent s) (s .args .k) f (inside (c .before) .to), length-headers (s .args .header) (now (s .args .tables)) (f .offset), c .headers-length .ensures))
 
 judge-requires : tie.Need-judge-requires
 judge-requires c κs = search needs

@@ -3,7 +3,7 @@ use borrow.Author.Needs.{needs}
 use denote.Ref.{now}
 use mathlib.Core.Path.{sym, _∙_}
 use Rattle.replies.specs.Checks.{refused-first, passed-first}
-use Rattle.sender.specs.Accepted.{fits}
+use Rattle.sender.specs.Fit.{fits}
 use Rattle.sender.specs.Picture.{picture}
 use Rattle.sender.proofs.judge.judge.Statement.{statement}
 use Rattle.sender.proofs.judge.judge.Tie as tie

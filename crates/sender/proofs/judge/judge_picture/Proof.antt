@@ -8,7 +8,7 @@ use native.Mathlib.Omega.{arith}
 use Rattle.laws.specs.Within.{is-within, is-under, is-over}
 use Rattle.replies.specs.Checks.{PastFirst, start, passes, fails, none-left}
 use Rattle.sender.specs.Picture.{picture}
-use Rattle.sender.specs.Sending.{pictureChecks}
+use Rattle.sender.specs.Fit.{pictureChecks}
 use Rattle.sender.proofs.judge.judge_picture.Statement.{statement}
 use Rattle.sender.proofs.judge.judge_picture.Tie as tie
 

@@ -1,6 +1,5 @@
 -- `sender::write::put_tables` meets its contract: what is due at the offset. Assumes nothing.
 use borrow.Author.Needs.{needs}
-use borrow.Author.Tests.{not-true, not-false}
 use Prim.Native.Nat.{_+_, _≤_}
 use denote.Ref.{now}
 use lib.ListN.{length}
@@ -9,14 +8,14 @@ use mathlib.Core.Path.{_≡_, refl, sym, _∙_}
 use native.Mathlib.Omega.{arith}
 use Rattle.laws.specs.Put.{puts-none, puts-more}
 use Rattle.laws.specs.Spelled.{spelled}
-use Rattle.sender.specs.Packet.{tableHeader, tables-due, tables-made, tables-past}
+use Rattle.sender.specs.Packet.{tableHeader, tables-due, tables-none, tables-some, tables-past}
 use Rattle.sender.proofs.write.put_tables.Statement.{statement}
 use Rattle.sender.proofs.write.put_tables.Tie as tie
 
 due : (c : tie.Else2) → let a = c .before .before .before .before .before .args in tableHeader (a .header) (now (a .tables)) (a .offset) ≡ 0 ∷ 0 ∷ (spelled 2 (length (now (a .tables))) ++ now (a .tables))
 due c =
     let a = c .before .before .before .before .before .args in
-    rw (c .before .before .if1 .left) (tables-due (a .header) (now (a .tables)) (sym (c .before .has-table-header .ensures) ∙ not-false _ (c .if2 .left)))
+    rw (c .before .before .if1 .left) (tables-due (a .header) (now (a .tables)) (tables-some (a .header) (now (a .tables)) (λ e. c .if2 .left (c .before .taken-by-tables .ensures ∙ e))))
 
 long : (c : tie.Else2) → let a = c .before .before .before .before .before .args in a .at + (4 + length (now (a .tables))) ≤ length (now (a .out))
 unfolding spelled
@@ -27,14 +26,13 @@ returns c =
     let a = c .before .before .before .args in
     rw (tables-past (a .header) (now (a .tables)) (a .offset) (c .if1 .taken)) (puts-none (now (a .out)) (a .at))
 
-has-table-header-requires : tie.Need-has-table-header-requires
-has-table-header-requires c κs = search needs
+taken-by-tables-requires : tie.Need-taken-by-tables-requires
+taken-by-tables-requires c κs = search needs
 
 returns-2 : tie.Need-returns-2
 returns-2 c =
-    let s = c .before .before .before .before .before in
-    let a = s .args in
-    rw (c .before .before .if1 .left, tables-made (a .header) (now (a .tables)) (sym (c .before .has-table-header .ensures) ∙ not-true _ (c .if2 .taken))) (puts-none (now (a .out)) (a .at))
+    let a = c .before .before .before .before .before .args in
+    rw (c .before .before .if1 .left, tables-none (a .header) (now (a .tables)) (sym (c .before .taken-by-tables .ensures) ∙ c .if2 .taken)) (puts-none (now (a .out)) (a .at))
 
 put-u16-requires : tie.Need-put-u16-requires
 put-u16-requires c κs = omega (arith, long (c .before))
@@ -68,7 +66,7 @@ put-tables-spec =
     tie.close
     (tie.spec
     returns
-    has-table-header-requires
+    taken-by-tables-requires
     returns-2
     put-u16-requires
     cast-put-u16

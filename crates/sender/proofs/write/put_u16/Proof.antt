@@ -1,8 +1,10 @@
--- `sender::write::put_u16` meets its contract: the high byte, then the low. Assumes nothing.
+-- `sender::write::put_u16` meets its contract: all but the last byte, then the last. Assumes nothing.
 use borrow.Author.Needs.{needs}
+use Prim.Native.Nat.{_/_, _%_}
+use mathlib.Core.Path.{_≡_}
 use native.Mathlib.Omega.{arith}
 use Rattle.laws.specs.Put.{puts-more}
-use Rattle.laws.specs.Spelled.{spelled-2}
+use Rattle.laws.specs.Spelled.{spelled}
 use Rattle.sender.proofs.write.put_u16.Statement.{statement}
 use Rattle.sender.proofs.write.put_u16.Tie as tie
 
@@ -25,9 +27,11 @@ same-length : tie.Need-same-length
 same-length c = search needs
 
 returns : tie.Need-returns
+unfolding spelled
 returns c =
-    let a = c .before .before .before .before .before .before .before .before .before .args in
-    rw (spelled-2 (a .v) (omega arith)) (puts-more (c .before .before .before .before .before .before .put-u8 .ensures) (c .before .before .put-u82 .ensures) (omega arith) (omega arith))
+    let v = c .before .before .before .before .before .before .before .before .before .args .v in
+    let high : v / 256 % 256 ≡ v / 256 = omega arith in
+    rw high (puts-more (c .before .before .before .before .before .before .put-u8 .ensures) (c .before .before .put-u82 .ensures) (omega arith) (omega arith))
 
 pub put-u16-spec : {M : Type 1} → statement M
 put-u16-spec =
