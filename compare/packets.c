@@ -228,14 +228,15 @@ static lj_written same(const call *c, uint8_t fill, enum place place) {
     stop(c);
 }
 
-/* A case for which document 01 itself says the reply, so that both senders being wrong alike shows too. Two fills, so
- * that a byte written as it was before shows in one of them. */
+/* A case whose reply is stated, so that both senders being wrong alike shows too: by document 01's limits, and where the
+ * number or the length of the packets decides, by the second sender's walk or by hand. Two fills, so that a byte written
+ * as it was before shows in one of them. */
 static void stated(const call *c, uint32_t reply) {
     uint32_t answered = same(c, 0x00, GUARDS).reply;
     same(c, 0xa5, GUARDS);
     same(c, 0x5a, HEAP);
     if (answered == reply) return;
-    printf("packets differ: both senders reply %" PRIu32 ", and document 01 says %" PRIu32 "\n", answered, reply);
+    printf("packets differ: both senders reply %" PRIu32 ", and stated is %" PRIu32 "\n", answered, reply);
     stop(c);
 }
 
@@ -538,6 +539,8 @@ static void by_hand(call c, uint32_t k, const char *head, size_t head_len, int t
     memcpy(right + length, scan_bytes + c.scan_at + from, to - from);
     length += to - from;
     c.k = k;
+    c.out_len = length - 1;
+    stated(&c, 46);
     c.out_len = length;
     stated(&c, 0);
     if (second(&c, written).length == length && memcmp(written, right, length) == 0) return;

@@ -42,22 +42,27 @@ lj_written lj_make_tables(uint32_t q, uint8_t *out, size_t out_len);
 /* Packet k, from 0, of a picture, as RTP carries it (RFC 2435, RFC 3550): the first bytes of out, and out past them stays
  * as it was. A picture is sent by asking for k = 0, 1, 2 and so on, with all else the same, until LJ_INDEX_TOO_LARGE.
  *
- *   type         0 or 1, or 64 or 65 with restart intervals
- *   q            1 to 99, whose tables the receiver makes itself, or 128 to 255
+ *   type         0: luma at twice the chroma's resolution across (sampling 2 by 1); 1: across and down (2 by 2). With
+ *                restart intervals: 64 and 65 in their place
+ *   q            1 to 99: the scan was quantised with the tables that lj_make_tables gives for this Q, and the receiver
+ *                makes them again. 128 to 255: with tables of the sender's own
  *   width        and height: 1 to 255, in units of 8 pixels
- *   interval     the restart interval: 1 to 65,535 for types 64 and 65, and 0 for 0 and 1
- *   tables       128 bytes, none of them 0, as lj_make_tables orders them; or no bytes. Q 1 to 99 has none, Q 255 always has
- *                them, and Q 128 to 254 may leave them out where the receiver has kept those of an earlier picture of that Q
- *   scan         the scan data of the picture, 1 to 65,536 bytes, which are carried as they are
+ *   interval     the restart interval, in MCUs: 1 to 65,535 for types 64 and 65, and 0 for 0 and 1
+ *   tables       64 luma entries, then 64 chroma entries, in zigzag order, none of them 0; or no bytes. Q 1 to 99 has none,
+ *                Q 255 always has them, and Q 128 to 254 may leave them out where the receiver has kept those of an earlier
+ *                picture of that Q
+ *   scan         the entropy-coded data that stands behind the SOS segment of a baseline JPEG with three components, coded
+ *                with the Huffman tables of T.81 K.3 to K.6: 1 to 65,536 bytes. They are carried as they are, and not
+ *                looked at
  *   packet_size  the length to which each packet is filled, all headers counted: 192 to 1,472. The last packet takes what
  *                remains, and alone has the marker
- *   start        the sequence number of packet 0; packet k has start + k, modulo 65,536
+ *   start        the sequence number of packet 0; packet k has start + k, modulo 65,536. The next picture starts where
+ *                this one ended, at start + the number of its packets
  *   time         the picture's time stamp, which every packet of it bears
  *   source       the source (SSRC), by which a receiver knows its sender
  *
- * An output of packet_size bytes is always long enough. Refusals, in this order: LJ_PARAMETERS, LJ_SCAN_LENGTH,
- * LJ_PACKET_SIZE, LJ_SENT_TABLES, LJ_OVER_64_PACKETS, LJ_INDEX_TOO_LARGE, LJ_PACKET_OUTPUT. out may not overlap tables or
- * scan. */
+ * An output of packet_size bytes is always long enough; out may not overlap tables or scan. Refusals, in this order:
+ * LJ_PARAMETERS, LJ_SCAN_LENGTH, LJ_PACKET_SIZE, LJ_SENT_TABLES, LJ_OVER_64_PACKETS, LJ_INDEX_TOO_LARGE, LJ_PACKET_OUTPUT. */
 lj_written lj_packet(uint32_t type, uint32_t q, uint32_t width, uint32_t height, uint32_t interval,
                      const uint8_t *tables, size_t tables_len, const uint8_t *scan, size_t scan_len,
                      uint32_t packet_size, uint16_t start, uint32_t time, uint32_t source, uint32_t k,

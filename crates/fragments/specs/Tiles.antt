@@ -1,7 +1,7 @@
 -- Fragments that tile a scan, however it is cut. Assumes nothing.
 use Prim.Native.Nat.{ℕ, zero, suc, _+_, _≤_, _<_}
 use mathlib.Core.List.{List, [], _∷_}
-use mathlib.Core.Path.{_≡_, refl, sym, ap}
+use mathlib.Core.Path.{_≡_, refl, sym}
 use native.Mathlib.Nat.{add-zero, add-assoc}
 use native.Mathlib.Omega.{arith}
 use lib.ListN.{length, drop}
@@ -9,10 +9,10 @@ use Rattle.laws.specs.Each.{Each}
 use Rattle.fragments.specs.Fragments.{stop, fragmentAt}
 use Rattle.fragments.specs.declared.Fragment.{Fragment}
 
--- the marker of a fragment with these behind it
-abbrev pub markerBefore : List Fragment → ℕ
+-- the marker of a fragment with these behind it: 1 on the last
+abbrev pub markerBefore : {A : Type 0} → List A → ℕ
 markerBefore [] = 1
-markerBefore (c ∷ cs) = 0
+markerBefore (x ∷ l) = 0
 
 -- From `start` to `end` with no gap: each begins where the last ended, is of 1 byte or more, and has the marker if it is the last.
 abbrev pub Tiles : ℕ → List Fragment → ℕ → Type 0
@@ -20,13 +20,9 @@ Tiles start [] end = start ≡ end
 Tiles start (c ∷ cs) end = (c .offset ≡ start) × (1 ≤ c .length) × (c .marker ≡ markerBefore cs) × Tiles (stop c) cs end
 
 -- Fragments of these lengths, one after the other from an offset on, the last with the marker.
-abbrev pub isLast : List ℕ → ℕ
-isLast [] = 1
-isLast (n ∷ lengths) = 0
-
 abbrev pub laid : ℕ → List ℕ → List Fragment
 laid offset [] = []
-laid offset (n ∷ lengths) = record { offset = offset; length = n; marker = isLast lengths } ∷ laid (offset + n) lengths
+laid offset (n ∷ lengths) = record { offset = offset; length = n; marker = markerBefore lengths } ∷ laid (offset + n) lengths
 
 abbrev pub sum : List ℕ → ℕ
 sum [] = 0
@@ -34,17 +30,13 @@ sum (n ∷ lengths) = n + sum lengths
 
 -- ---- laws
 
-last-laid : (offset : ℕ) (lengths : List ℕ) → isLast lengths ≡ markerBefore (laid offset lengths)
+last-laid : (offset : ℕ) (lengths : List ℕ) → markerBefore lengths ≡ markerBefore (laid offset lengths)
 last-laid offset [] = refl
 last-laid offset (n ∷ lengths) = refl
 
 pub laid-tiles : (offset : ℕ) (lengths : List ℕ) → Each (λ (n : ℕ). 1 ≤ n) lengths → Tiles offset (laid offset lengths) (offset + sum lengths)
 laid-tiles offset [] some = sym (add-zero offset)
 laid-tiles offset (n ∷ lengths) some = (refl, some .0, last-laid (offset + n) lengths, rw (add-assoc offset n (sum lengths)) at (laid-tiles (offset + n) lengths (some .1)))
-
-pub length-laid : (offset : ℕ) (lengths : List ℕ) → length (laid offset lengths) ≡ length lengths
-length-laid offset [] = refl
-length-laid offset (n ∷ lengths) = ap suc (length-laid (offset + n) lengths)
 
 -- what is known of one of them
 pub record Inside (start end : ℕ) (c : Fragment) : Type 0 where

@@ -8,6 +8,10 @@ use native.Mathlib.Omega.{arith}
 use lib.ListN.{length, getD, take, drop, set, replicate, length-replicate}
 use lib.Seq.{take-nil, take-take, drop-drop}
 
+pub empty : (l : List ℕ) → length l ≡ 0 → l ≡ []
+empty [] e = refl
+empty (x ∷ l) e = absurd (omega arith)
+
 pub map-at : (f : ℕ → ℕ) (l : List ℕ) (i : ℕ) → i < length l → getD (map f l) i 0 ≡ f (getD l i 0)
 map-at f [] i h = absurd (not-suc-le-zero h)
 map-at f (x ∷ l) zero h = refl

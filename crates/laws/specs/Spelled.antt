@@ -1,9 +1,7 @@
 -- Numbers spelled in bytes, most significant byte first. Assumes nothing.
-use Prim.Native.Nat.{ℕ, zero, suc, _+_, _/_, _%_, _<_}
+use Prim.Native.Nat.{ℕ, zero, suc, _/_, _%_, _<_}
 use mathlib.Core.List.{List, [], _∷_, _++_}
-use mathlib.Core.Path.{_≡_, refl}
 use native.Mathlib.Omega.{arith}
-use lib.ListN.{length, length-append}
 use Rattle.laws.specs.Each.{Each, each-append}
 
 -- v in n bytes
@@ -12,11 +10,6 @@ spelled zero v = []
 spelled (suc n) v = spelled n (v / 256) ++ (v % 256 ∷ [])
 
 -- ---- laws
-
-pub length-spelled : (n v : ℕ) → length (spelled n v) ≡ n
-unfolding spelled
-length-spelled zero v = refl
-length-spelled (suc n) v = simp length-append (omega (arith, length-spelled n (v / 256)))
 
 pub each-spelled : (n v : ℕ) → Each (λ (b : ℕ). b < 256) (spelled n v)
 unfolding spelled

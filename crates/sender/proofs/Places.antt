@@ -9,7 +9,7 @@ use borrow.Author.Tests.{ltb-true, ltb-false, leb-true, leb-false, le-leb, lt-le
 use lib.Dec.{ltb, leb}
 use lib.ListN.{length}
 use Rattle.fragments.specs.Fragments.{fragmentAt}
-use Rattle.fragments.specs.Tiles.{isLast, laid}
+use Rattle.fragments.specs.Tiles.{markerBefore, laid}
 use Rattle.fragments.specs.declared.Fragment.{Fragment}
 use Rattle.laws.specs.Truth.{split}
 use Rattle.sender.specs.Cuts.{capacity, shares, cuts}
@@ -40,7 +40,7 @@ module _ (place holds : ℕ → ℕ) (all : ℕ) (rises : (j : ℕ) → place j 
     left : all - place i - holds (place i) ≡ all - place (suc i)
     left = rw (step i) (omega (arith, rises i))
 
-  more : (n offset remains : ℕ) → 1 ≤ n → isLast (shares n holds offset remains) ≡ 0
+  more : (n offset remains : ℕ) → 1 ≤ n → markerBefore (shares n holds offset remains) ≡ 0
   more zero offset remains h = absurd (omega arith)
   more (suc n) offset remains h = split (leb remains (holds offset)) (λ e. rw e) (λ e. rw e)
 

@@ -3,12 +3,13 @@
 use Prim.Native.Nat.{ℕ, _+_, _*_, _%_, _^_, _≤_}
 use mathlib.Core.Bool.{true, false, cond}
 use mathlib.Core.List.{List, [], _∷_, _++_}
-use mathlib.Core.Path.{_≡_, refl}
+use mathlib.Core.Path.{_≡_}
 use native.Mathlib.Omega.{arith}
 use borrow.Author.Tests.{ne-eqb}
 use lib.ListN.{length, length-append}
 use Rattle.fragments.specs.Fragments.{stop, bytesOf, length-bytes-of}
 use Rattle.fragments.specs.declared.Fragment.{Fragment}
+use Rattle.laws.specs.Lists.{empty}
 use Rattle.laws.specs.Spelled.{spelled}
 use Rattle.laws.specs.Truth.{split}
 use Rattle.wire.specs.Kind.{restartsOf, arePresent}
@@ -57,10 +58,6 @@ packet s p k c = rtpHeader s k (c .marker) ++ (jpegHeaders (p .header) (p .table
 
 -- ---- laws
 
-pub nothing : (l : List ℕ) → length l ≡ 0 → l ≡ []
-nothing [] e = refl
-nothing (x ∷ l) e = absurd (omega arith)
-
 module _ (h : Header) (word : ℕ) where
   pub restart-present : arePresent (restartsOf (h .kind)) ≡ true → restartHeader h word ≡ spelled 2 (h .interval) ++ spelled 2 word
   unfolding restartHeader
@@ -68,7 +65,7 @@ module _ (h : Header) (word : ℕ) where
 
   -- none, or of 4 bytes for a type with restart intervals
   pub restart-none : length (restartHeader h word) ≡ 0 → restartHeader h word ≡ []
-  restart-none e = nothing (restartHeader h word) e
+  restart-none e = empty (restartHeader h word) e
 
   pub restart-some : (length (restartHeader h word) ≡ 0 → ⊥) → arePresent (restartsOf (h .kind)) ≡ true
   unfolding restartHeader
@@ -89,7 +86,7 @@ module _ (h : Header) (tables : List ℕ) where
 
   -- none, or those of the first packet
   pub tables-none : length (tableHeader h tables 0) ≡ 0 → tableHeader h tables 0 ≡ []
-  tables-none e = nothing (tableHeader h tables 0) e
+  tables-none e = empty (tableHeader h tables 0) e
 
   pub tables-some : (length (tableHeader h tables 0) ≡ 0 → ⊥) → isInBand (tableSource (h .q)) ≡ true
   tables-some n = split (isInBand (tableSource (h .q))) (λ e. e) (λ e. absurd (n (rw (tables-made e))))

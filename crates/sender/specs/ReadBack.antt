@@ -13,6 +13,7 @@ use lib.Seq.{take-all, getD-drop, drop-drop, take-append-seam, drop-append-seam}
 use Rattle.fragments.specs.Fragments.{stop, fragmentAt, bytesOf, length-bytes-of}
 use Rattle.fragments.specs.Tiles.{Tiles, tiles-inside}
 use Rattle.fragments.specs.declared.Fragment.{Fragment}
+use Rattle.laws.specs.Lists.{empty}
 use Rattle.laws.specs.Spelled.{spelled}
 use Rattle.laws.specs.Truth.{split, never-both, and-true, same}
 use Rattle.replies.specs.Checks.{judged, passed-first}
@@ -30,7 +31,7 @@ use Rattle.wire.specs.Tables.{hasTableHeader, tablesLength, precision, tablesAt
 use Rattle.wire.specs.declared.Packet.{Packet}
 use Rattle.wire.specs.declared.Reading.the-variants as Answer
 use Rattle.sender.specs.Fit.{tablesFit, none-or-full}
-use Rattle.sender.specs.Packet.{rtpHeader, mainHeader, restartHeader, notByIntervals, tableHeader, scanBegins, packet, nothing, length-packet}
+use Rattle.sender.specs.Packet.{rtpHeader, mainHeader, restartHeader, notByIntervals, tableHeader, scanBegins, packet, length-packet}
 use Rattle.sender.specs.Picture.{Picture}
 use Rattle.sender.specs.declared.Stamp.{Stamp}
 
@@ -141,7 +142,7 @@ module _ (b t scan : List ℕ) (fit : tablesFit (tableSource (main b .q)) t ≡ 
     unfolding hasTableHeader
     none-due =
         split (eqb (main b .offset) 0)
-        (λ first. rw first (⊎-elim (λ none. nothing t (none .0)) (λ f. absurd (never-both (f .0) (rw first at bare))) (none-or-full (tableSource (main b .q)) t fit)))
+        (λ first. rw first (⊎-elim (λ none. empty t (none .0)) (λ f. absurd (never-both (f .0) (rw first at bare))) (none-or-full (tableSource (main b .q)) t fit)))
         (λ later. rw later)
 
     without-tables : TablesRead b (cond (eqb (main b .offset) 0) t []) scan
