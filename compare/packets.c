@@ -267,7 +267,7 @@ static void fill_bytes(void) {
 
 /* ---- Limits ---- */
 
-/* Bytes of scan data in a full packet: the first, and each that follows. Only to choose cases near a packet's end. */
+/* Bytes of scan data in a full packet: each behind the first, and the first. Only to choose cases near a packet's end. */
 static uint32_t later_room(const call *c) { return c->packet_size - (c->type >= 64 ? 24 : 20); }
 
 static uint32_t first_room(const call *c) {
@@ -318,7 +318,8 @@ static void try_scan_lengths(call c) {
     }
 }
 
-/* 64 full packets and one byte more, from the smallest packet size to the first at which 65,536 bytes fit. */
+/* 64 full packets and one byte more, from the smallest packet size to the first at which 65,536 bytes fit, and the
+ * largest. */
 static void try_64_packets(call c) {
     static const uint32_t sizes[] = {192,  193,  500,  1000, 1043, 1044, 1045, 1046,
                                      1047, 1048, 1049, 1050, 1051, 1052, 1472};
@@ -550,7 +551,7 @@ static void by_hand(call c, uint32_t k, const char *head, size_t head_len, int t
 
 #define BY_HAND(c, k, head, tables, from, to) by_hand(c, k, head, sizeof(head) - 1, tables, from, to)
 
-/* Document 01's own lines on packets of 192 bytes, with the bytes. */
+/* Document 01's own lines on packets of 192 bytes, and a Q above 127 without tables, with the bytes. */
 static void try_by_hand(void) {
 #define STAMP "\x01\x02\x03\x04\xa1\xb2\xc3\xd4"
     call c = right_call(0, 50, 0);
@@ -579,17 +580,18 @@ static void try_by_hand(void) {
 #if SIZE_MAX > UINT32_MAX
 /* One of the three is lent at `far`, of which only the first bytes are ever looked at; the others are right. */
 static void same_far(const call *c, uint8_t *far, char which, uint32_t reply) {
-    static uint8_t near[2048], right[2048];
+    static uint8_t near[2048], right[2048], tables[128];
     memset(near, 0x5a, sizeof near);
     memset(right, 0x5a, sizeof right);
+    memcpy(tables, table_bytes, sizeof tables);
     lj_written theirs = second(c, right);
     uint8_t *out = which == 'o' ? far : near;
     memcpy(far, which == 's' ? scan_bytes + c->scan_at : which == 't' ? table_bytes : near, sizeof near);
-    lj_written ours = called(c, which == 't' ? far : table_bytes, which == 's' ? far : scan_lent + c->scan_at, out);
+    lj_written ours = called(c, which == 't' ? far : tables, which == 's' ? far : scan_lent + c->scan_at, out);
     compared++;
     replies[theirs.reply]++;
     if (ours.reply == theirs.reply && ours.length == theirs.length && theirs.reply == reply &&
-        memcmp(out, right, sizeof right) == 0)
+        memcmp(out, right, sizeof right) == 0 && memcmp(tables, table_bytes, sizeof tables) == 0)
         return;
     printf("packets differ, a length over 32 bits: reply %" PRIu32 " length %" PRIu32 " and not %" PRIu32 "\n",
            ours.reply, ours.length, reply);

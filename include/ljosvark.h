@@ -22,7 +22,7 @@ enum {
     LJ_PARAMETERS = 40,      /* sender: type, Q, width, height or interval outside its limits */
     LJ_SCAN_LENGTH = 41,     /* sender: the scan is not 1 to 65,536 bytes */
     LJ_PACKET_SIZE = 42,     /* sender: the packet size is not 192 to 1,472 */
-    LJ_SENT_TABLES = 43,     /* sender: tables that this Q does not take, or with a 0, or not given */
+    LJ_SENT_TABLES = 43,     /* sender: tables missing or unwanted for this Q, not 128 bytes, or with a 0 */
     LJ_OVER_64_PACKETS = 44, /* sender: the picture needs more than 64 packets of this size */
     LJ_INDEX_TOO_LARGE = 45, /* sender: the picture has no packet k */
     LJ_PACKET_OUTPUT = 46    /* sender: the output is shorter than the packet */
@@ -51,17 +51,18 @@ lj_written lj_make_tables(uint32_t q, uint8_t *out, size_t out_len);
  *   tables       64 luma entries, then 64 chroma entries, in zigzag order, none of them 0; or no bytes. Q 1 to 99 has none,
  *                Q 255 always has them, and Q 128 to 254 may leave them out where the receiver has kept those of an earlier
  *                picture of that Q
- *   scan         the entropy-coded data that stands behind the SOS segment of a baseline JPEG with three components, coded
- *                with the Huffman tables of T.81 K.3 to K.6: 1 to 65,536 bytes. They are carried as they are, and not
- *                looked at
+ *   scan         the entropy-coded data that stands behind the SOS segment of a baseline JPEG with three components in one
+ *                scan, coded with the Huffman tables of T.81 K.3 to K.6: 1 to 65,536 bytes, with or without the EOI marker
+ *                at their end. They are carried as they are, and not looked at
  *   packet_size  the length to which each packet is filled, all headers counted: 192 to 1,472. The last packet takes what
  *                remains, and alone has the marker
  *   start        the sequence number of packet 0; packet k has start + k, modulo 65,536. The next picture starts where
  *                this one ended, at start + the number of its packets
- *   time         the picture's time stamp, which every packet of it bears
+ *   time         the picture's time stamp, which every packet of it bears and the next picture's do not: a receiver tells
+ *                pictures apart by it
  *   source       the source (SSRC), by which a receiver knows its sender
  *
- * An output of packet_size bytes is always long enough; out may not overlap tables or scan. Refusals, in this order:
+ * An output of packet_size bytes is always long enough; out must not overlap tables or scan. Refusals, in this order:
  * LJ_PARAMETERS, LJ_SCAN_LENGTH, LJ_PACKET_SIZE, LJ_SENT_TABLES, LJ_OVER_64_PACKETS, LJ_INDEX_TOO_LARGE, LJ_PACKET_OUTPUT. */
 lj_written lj_packet(uint32_t type, uint32_t q, uint32_t width, uint32_t height, uint32_t interval,
                      const uint8_t *tables, size_t tables_len, const uint8_t *scan, size_t scan_len,

@@ -4,7 +4,7 @@ use mathlib.Core.List.{List, [], _∷_, _++_}
 use native.Mathlib.Omega.{arith}
 use Rattle.laws.specs.Each.{Each, each-append}
 
--- v in n bytes
+-- v in n bytes, modulo 256^n
 unfoldable pub spelled : ℕ → ℕ → List ℕ
 spelled zero v = []
 spelled (suc n) v = spelled n (v / 256) ++ (v % 256 ∷ [])

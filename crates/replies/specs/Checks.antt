@@ -78,7 +78,7 @@ all-hold [] e = tt
 all-hold ((n when true) ∷ checks) e = absurd (never-refused (sym e))
 all-hold ((n when false) ∷ checks) e = (refl, all-hold checks e)
 
--- what each of the numbers has, the number of a refusal has
+-- what holds of the number of each check holds of the number of a refusal
 abbrev pub Numbered : (ℕ → Type 0) → Check → Type 0
 Numbered P (n when b) = P n
 

@@ -63,7 +63,7 @@ refusal-leaves {short} {d} {before} {w} {after} a refuses = go (fitted short bef
     go (refuse n) e o = (ap (λ (x : Written). x .length) e, o)
     go (write bytes) e o = absurd (refuses (ap (λ (x : Written). x .reply) e))
 
--- what checks decided tells what they came to
+-- from a decision back to what the checks came to
 pub decided-write : (j : Judged) (x : List ℕ) {bytes : List ℕ} → decided j x ≡ write bytes → (j ≡ Passed) × (x ≡ bytes)
 decided-write Passed x e = (refl, cc)
 decided-write (Refused n) x e = absurd (let z : _≡_ {A = ℕ} 0 1 = cc in omega arith)

@@ -63,7 +63,7 @@ module _ (h : Header) (word : ℕ) where
   unfolding restartHeader
   restart-present e = rw e
 
-  -- none, or of 4 bytes for a type with restart intervals
+  -- when it is empty, for which types it is not, and at most 4 bytes
   pub restart-none : length (restartHeader h word) ≡ 0 → restartHeader h word ≡ []
   restart-none e = empty (restartHeader h word) e
 
@@ -84,7 +84,7 @@ module _ (h : Header) (tables : List ℕ) where
   unfolding tableHeader
   tables-made e = rw e
 
-  -- none, or those of the first packet
+  -- when it is empty, for which Q it is not, none behind the first packet, and at most 132 bytes
   pub tables-none : length (tableHeader h tables 0) ≡ 0 → tableHeader h tables 0 ≡ []
   tables-none e = empty (tableHeader h tables 0) e
 

@@ -1,4 +1,4 @@
--- A packet is made of bytes, where its tables and its scan are. Assumes nothing.
+-- A packet of lawful header fields and a marker of 0 or 1 is made of bytes, where its tables and its scan are. Assumes nothing.
 use Prim.Native.Nat.{ℕ, _≤_, _<_}
 use mathlib.Core.List.{List, _++_}
 use native.Mathlib.Omega.{arith}

@@ -42,7 +42,7 @@ pub record Sendable (s : Stamp) (p : Picture) : Type 0 where
   pub time : s .time < 2 ^ 32
   pub source : s .source < 2 ^ 32
 
--- A fragment that a packet can carry.
+-- What a fragment needs for its packet to be read back. Its marker is not asked about; where fragments tile, it is 0 or 1.
 pub record Carried (p : Picture) (c : Fragment) : Type 0 where
   pub some : 1 ≤ c .length
   pub inside : stop c ≤ length (p .scan)
@@ -66,7 +66,8 @@ pub record ReadBack (s : Stamp) (p : Picture) (c : Fragment) (bytes : List ℕ) 
   pub scan-length : said .scan .length ≡ c .length
   pub scan : scanIn bytes said ≡ bytesOf (p .scan) c
 
--- A picture that may be sent, cut in any way: its cuts tile the scan, and each goes into a packet.
+-- A picture that may be sent, cut in any way: its cuts, at most 64, tile the scan, an offset reaches all of it, and each goes into a
+-- packet.
 pub record Cut (s : Stamp) (p : Picture) (cs : List Fragment) : Type 0 where
   pub sendable : Sendable s p
   pub tiles : Tiles 0 cs (length (p .scan))
@@ -246,7 +247,7 @@ module _ (s : Stamp) (p : Picture) (k : ℕ) (c : Fragment) (sendable : Sendable
 pub read-back : (s : Stamp) (p : Picture) (k : ℕ) (c : Fragment) → Sendable s p → Carried p c → ReadBack s p c (packet s p k c)
 read-back s p k c sendable carried = rw (packet-parts s p k c) (parts-read-back s p k c sendable carried)
 
--- so is every packet of a picture, however it is cut
+-- every packet of a picture is read back, however the picture is cut
 module _ {s : Stamp} {p : Picture} {cs : List Fragment} (cut : Cut s p cs) where
   pub cut-carried : (k : ℕ) → k < length cs → Carried p (fragmentAt cs k)
   cut-carried k index =

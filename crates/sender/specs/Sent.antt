@@ -1,7 +1,7 @@
 -- The packets of a picture that the sender takes. Assumes nothing.
 use Prim.Native.Nat.{ℕ, suc, _+_, _^_, _≤_, _<_}
 use mathlib.Core.List.{List}
-use mathlib.Core.Path.{_≡_, sym, _∙_}
+use mathlib.Core.Path.{_≡_, sym, ap, _∙_}
 use native.Mathlib.Omega.{arith}
 use lib.ListN.{length, take}
 use Rattle.fragments.specs.Fragments.{fragmentAt}
@@ -46,7 +46,7 @@ module _ {p : Picture} {size : ℕ} (fit : Fit p size) where
       pub packet-full : suc k < length (cuts size p) → length (packet s p k (fragmentAt (cuts size p) k)) ≡ size
       packet-full more = rw (length-packet s p k (fragmentAt (cuts size p) k) (cut-inside .to)) (size-filled (fragmentAt (cuts size p) k) (cuts-filled fit k index .all more))
 
--- The sender's own cuts are such as any picture may be cut by.
+-- The sender's own cuts are one way to cut a picture.
 module _ (s : Stamp) (p : Picture) (size k : ℕ) (ok : Accepted p size k) (time : s .time < 2 ^ 32) (source : s .source < 2 ^ 32) where
   pub sent-cut : Cut s p (cuts size p)
   sent-cut = record {
@@ -64,6 +64,7 @@ module _ (s : Stamp) (p : Picture) (size k : ℕ) (ok : Accepted p size k) (time
 -- A call that succeeds was asked for a packet of a picture that is taken, and leaves that packet in front.
 pub record Sent (p : Picture) (size : ℕ) (s : Stamp) (k : ℕ) (w : Written) (after : List ℕ) : Type 0 where
   pub ok : Accepted p size k
+  pub long : w .length ≡ length (packet s p k (fragmentAt (cuts size p) k))
   pub front : take (w .length) after ≡ packet s p k (fragmentAt (cuts size p) k)
 
 -- no refusal has the number of success
@@ -80,6 +81,7 @@ module _ (p : Picture) (size : ℕ) (s : Stamp) (k : ℕ) {before : List ℕ} {w
       let d = decided-write j bytes (t .decision) in
       record {
         ok = accepted p size k (d .0);
+        long = t .long ∙ ap length (sym (d .1));
         front = wrote-front t ∙ sym (d .1);
       }
 
