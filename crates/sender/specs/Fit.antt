@@ -56,11 +56,11 @@ fits p size e =
       tables = not-false (tablesFit (tableSource (p .header .q)) (p .tables)) (t .1 .1 .1 .0);
     }
 
--- tables that fit: none, where the picture need not bring them, or 128 bytes in band, none of them 0
 full : (t : List ℕ) → areFull t ≡ true → (length t ≡ 128) × (any isZero t ≡ false)
 unfolding areFull
 full t e = let both = and-true (eqb (length t) 128) (not (any isZero t)) e in (eqb-true (length t) 128 (both .0), not-true (any isZero t) (both .1))
 
+-- tables that fit: none, where the picture need not bring them, or 128 bytes in band, none of them 0
 pub none-or-full : (s : TableSource) (t : List ℕ) → tablesFit s t ≡ true → ((length t ≡ 0) × (isAlwaysBrought s ≡ false)) ⊎ ((isInBand s ≡ true) × (length t ≡ 128) × (any isZero t ≡ false))
 none-or-full Made t e = inl (eqb-true (length t) 0 e, refl)
 none-or-full KeptOrBrought t e = split (eqb (length t) 0) (λ none. inl (eqb-true (length t) 0 none, refl)) (λ some. let f = full t (rw some at e) in inr (refl, f .0, f .1))

@@ -20,12 +20,13 @@ pub record Lawful (h : Header) : Type 0 where
   pub interval : arePresent (restartsOf (h .kind)) ≡ true → Between 1 65535 (h .interval)
   pub no-interval : arePresent (restartsOf (h .kind)) ≡ false → h .interval ≡ 0
 
--- The same as a test: the type with its interval, Q, and the sides.
+-- Whether a type's pictures have such an interval.
 abbrev pub hasInterval : Restarts → ℕ → Bool
 hasInterval Absent interval = eqb interval 0
 hasInterval Present interval = within 1 65535 interval
 hasInterval NotCarried interval = false
 
+-- The same as a test: Q, the sides, and the type with its interval.
 unfoldable pub isLawful : Header → Bool
 isLawful h =
     not (isReserved (tableSource (h .q)))
