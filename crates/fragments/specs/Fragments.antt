@@ -10,9 +10,13 @@ use Rattle.fragments.specs.declared.Fragment.{Fragment}
 abbrev pub stop : Fragment → ℕ
 stop c = c .offset + c .length
 
+-- no fragment
+abbrev pub nothing : Fragment
+nothing = record { offset = 0; length = 0; marker = 0 }
+
 -- fragment k of a list
 abbrev pub fragmentAt : List Fragment → ℕ → Fragment
-fragmentAt cs k = getD cs k (record { offset = 0; length = 0; marker = 0 })
+fragmentAt cs k = getD cs k nothing
 
 -- its bytes of the scan
 abbrev pub bytesOf : List ℕ → Fragment → List ℕ

@@ -1,2 +1,6 @@
 pub mod Fragments
 pub mod Tiles
+pub mod Shared
+pub mod Order
+pub mod Held
+pub mod Insertion

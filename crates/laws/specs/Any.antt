@@ -2,7 +2,7 @@
 use Prim.Native.Nat.{ℕ, zero, suc, _+_, _<_}
 use mathlib.Core.Bool.{Bool, true, false, _||_}
 use mathlib.Core.List.{List, [], _∷_}
-use mathlib.Core.Path.{_≡_, _∙_}
+use mathlib.Core.Path.{_≡_, refl, _∙_}
 use native.Mathlib.Nat.{not-suc-le-zero, le-of-suc-le-suc}
 use native.Mathlib.Numerals.{add-one}
 use lib.ListN.{length, getD, take}
@@ -18,6 +18,10 @@ module _ {A : Type 0} (test : A → Bool) where
   pub any-none : (l : List A) → any l ≡ false → Each (λ (x : A). test x ≡ false) l
   any-none [] h = tt
   any-none (x ∷ l) h = let t = or-none (test x) (any l) h in (t .0, any-none l (t .1))
+
+  pub none-any : (l : List A) → Each (λ (x : A). test x ≡ false) l → any l ≡ false
+  none-any [] h = refl
+  none-any (x ∷ l) h = rw (h .0) (none-any l (h .1))
 
   -- one element more of the front of a list
   any-suc : (l : List A) (i : ℕ) (d : A) → i < length l → any (take (suc i) l) ≡ (any (take i l) || test (getD l i d))

@@ -2,6 +2,10 @@ pub mod Truth
 pub mod Within
 pub mod Each
 pub mod Any
+pub mod All
+pub mod Chained
+pub mod Same
 pub mod Lists
 pub mod Spelled
 pub mod Put
+pub mod Insert

@@ -1,16 +1,17 @@
 -- Table making's promise. Assumes nothing.
 use Prim.Native.Nat.{ℕ, _-_, _*_, _/_, _≤_, _<_}
 use mathlib.Core.Bool.{cond}
-use mathlib.Core.List.{List}
-use mathlib.Core.Path.{_≡_}
+use mathlib.Core.List.{List, append-nil}
+use mathlib.Core.Path.{_≡_, _∙_}
 use native.Mathlib.Omega.{arith}
-use borrow.Author.Tests.{le-leb, lt-leb}
-use Rattle.laws.specs.Within.{within, is-within, is-under, is-over}
+use borrow.Author.Tests.{le-ltb, le-leb, lt-leb}
+use lib.ListN.{length, drop-of-length-le}
+use Rattle.laws.specs.Within.{within, Between, is-within, is-under, is-over}
 use Rattle.replies.specs.Reply
 use Rattle.replies.specs.Output.{Decision, Writes}
 use Rattle.replies.specs.Output.Decision.{refuse, write}
 use Rattle.replies.specs.declared.Written.{Written}
-use Rattle.tables.specs.Quantiser.{scale, scaled, tablesOf}
+use Rattle.tables.specs.Quantiser.{scale, scaled, tablesOf, length-tables}
 
 -- The tables of a Q from 1 to 99, and a refusal for any other number.
 unfoldable pub tablesFor : ℕ → Decision
@@ -38,3 +39,11 @@ module _ (q : ℕ) where
   pub no-tables-over-99 : 99 < q → tablesFor q ≡ refuse Reply.q-not-made
   unfolding tablesFor
   no-tables-over-99 h = rw (is-over 1 99 q h)
+
+-- into 128 bytes
+pub makes-all : (q : ℕ) {before after : List ℕ} {w : Written} → Between 1 99 q → length before ≡ 128 → MakesTables q before w after → after ≡ tablesOf q
+unfolding tablesFor
+makes-all q {before} {after} {w} b long m =
+    let all = length-tables q in
+    rw (is-within 1 99 q (b .0) (b .1), le-ltb (length before) (length (tablesOf q)) (omega arith)) at (m .output)
+    ∙ rw (all, drop-of-length-le before {i = 128} (omega arith)) (append-nil (tablesOf q))

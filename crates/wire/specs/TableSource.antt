@@ -5,7 +5,8 @@ use mathlib.Core.Path.{_≡_, refl}
 use native.Mathlib.Omega.{arith}
 use borrow.Author.Tests.{eq-eqb, ne-eqb}
 use lib.Dec.{eqb}
-use Rattle.laws.specs.Within.{within, is-within, is-under, is-over}
+use Rattle.laws.specs.Truth.{split, never-both}
+use Rattle.laws.specs.Within.{within, Between, is-within, is-under, is-over, between}
 use Rattle.wire.specs.declared.TableSource.{TableSource}
 use Rattle.wire.specs.declared.TableSource.the-variants.{Made, KeptOrBrought, AlwaysBrought, Reserved}
 
@@ -28,6 +29,18 @@ isAlwaysBrought Made = false
 isAlwaysBrought KeptOrBrought = false
 isAlwaysBrought AlwaysBrought = true
 isAlwaysBrought Reserved = false
+
+abbrev pub isMade : TableSource → Bool
+isMade Made = true
+isMade KeptOrBrought = false
+isMade AlwaysBrought = false
+isMade Reserved = false
+
+abbrev pub isKeptOrBrought : TableSource → Bool
+isKeptOrBrought Made = false
+isKeptOrBrought KeptOrBrought = true
+isKeptOrBrought AlwaysBrought = false
+isKeptOrBrought Reserved = false
 
 -- the first packet of such a picture has a table header
 abbrev pub isInBand : TableSource → Bool
@@ -66,6 +79,22 @@ module _ (q : ℕ) where
   pub always-brought-255 : q ≡ 255 → tableSource q ≡ AlwaysBrought
   unfolding tableSource
   always-brought-255 e = rw (is-over 1 99 q (omega arith), is-over 128 254 q (omega arith), eq-eqb q 255 e)
+
+-- and back from the source to the numbers
+module _ (q : ℕ) where
+  pub made-between : isMade (tableSource q) ≡ true → Between 1 99 q
+  unfolding tableSource
+  made-between e = split (within 1 99 q) (λ w. between 1 99 q w) (λ w. absurd (never-both e (not-made w)))
+    where
+      not-made : within 1 99 q ≡ false → isMade (tableSource q) ≡ false
+      not-made w = rw w (split (within 128 254 q) (λ a. rw a) (λ a. rw a (split (eqb q 255) (λ b. rw b) (λ b. rw b))))
+
+  pub kept-or-brought-between : isKeptOrBrought (tableSource q) ≡ true → Between 128 254 q
+  unfolding tableSource
+  kept-or-brought-between e = split (within 128 254 q) (λ w. between 128 254 q w) (λ w. absurd (never-both e (not-kept w)))
+    where
+      not-kept : within 128 254 q ≡ false → isKeptOrBrought (tableSource q) ≡ false
+      not-kept w = rw w (split (within 1 99 q) (λ a. rw a) (λ a. rw a (split (eqb q 255) (λ b. rw b) (λ b. rw b))))
 
 pub always-in-band : (s : TableSource) → isAlwaysBrought s ≡ true → isInBand s ≡ true
 always-in-band Made e = e

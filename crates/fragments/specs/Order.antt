@@ -1,0 +1,182 @@
+-- Fragments in offset order. Assumes nothing.
+use Prim.Native.Nat.{ℕ, zero, suc, _+_, _≤_, _<_}
+use mathlib.Core.Bool.{Bool, true, false, not, _&&_}
+use mathlib.Core.List.{List, [], _∷_}
+use mathlib.Core.Path.{_≡_, refl, sym, _∙_}
+use native.Mathlib.Omega.{arith}
+use borrow.Author.Tests.{ltb-true, lt-ltb, leb-true, le-leb, eqb-true, eq-eqb, not-true}
+use lib.Dec.{ltb, leb, eqb}
+use Rattle.laws.specs.All.{all, all-each, each-all, pairwise}
+use Rattle.laws.specs.Chained.{chained, lastOf}
+use Rattle.laws.specs.Each.{Each, each-weaken, each-both}
+use Rattle.laws.specs.Truth.{split, and-true, same-test}
+use Rattle.fragments.specs.Fragments.{stop, nothing}
+use Rattle.fragments.specs.Shared.{share, unshared, in-front}
+use Rattle.fragments.specs.Tiles.{markerBefore}
+use Rattle.fragments.specs.declared.Fragment.{Fragment}
+
+-- Each is of 1 byte or more.
+abbrev pub hasBytes : Fragment → Bool
+hasBytes f = leb 1 (f .length)
+
+-- Each begins behind where those before it begin.
+abbrev pub rises : Fragment → Fragment → Bool
+rises f g = ltb (f .offset) (g .offset)
+
+-- No two share a byte.
+abbrev pub isApart : Fragment → Fragment → Bool
+isApart f g = not (share f g)
+
+-- Each ends within so many bytes.
+abbrev pub endsBy : ℕ → Fragment → Bool
+endsBy room f = leb (stop f) room
+
+-- A marker is on the last at most.
+abbrev pub markedLast : List Fragment → Bool
+markedLast [] = true
+markedLast (f ∷ fs) = leb (f .marker) (markerBefore fs) && markedLast fs
+
+-- All of that.
+unfoldable pub inPlace : ℕ → List Fragment → Bool
+inPlace room fs = all hasBytes fs && pairwise rises fs && pairwise isApart fs && all (endsBy room) fs && markedLast fs
+
+-- ---- laws
+
+-- Order as what has to hold of each and the one before it: from `at` on, each has bytes, and ends before the next begins.
+abbrev pub InOrder : ℕ → List Fragment → Type 0
+InOrder at [] = Unit {0}
+InOrder at (f ∷ fs) = (at ≤ f .offset) × (1 ≤ f .length) × InOrder (stop f) fs
+
+pub in-order-from : (at : ℕ) (fs : List Fragment) → InOrder at fs → Each (λ (g : Fragment). at ≤ g .offset) fs
+in-order-from at [] r = tt
+in-order-from at (f ∷ fs) r = (r .0, each-weaken (λ (g : Fragment). stop f ≤ g .offset) (λ (g : Fragment). at ≤ g .offset) (λ g b. omega arith) fs (in-order-from (stop f) fs (r .2)))
+
+-- the tests of order tell exactly that
+tests-in-order : (at : ℕ) (fs : List Fragment) → Each (λ (g : Fragment). at ≤ g .offset) fs → all hasBytes fs ≡ true → pairwise rises fs ≡ true → pairwise isApart fs ≡ true → InOrder at fs
+tests-in-order at [] b n r a = tt
+tests-in-order at (f ∷ fs) b n r a =
+    let n′ = and-true (hasBytes f) (all hasBytes fs) n in
+    let r′ = and-true (all (rises f) fs) (pairwise rises fs) r in
+    let a′ = and-true (all (isApart f) fs) (pairwise isApart fs) a in
+    let long = leb-true 1 (f .length) (n′ .0) in
+    let behind = each-weaken
+    (λ (g : Fragment). (hasBytes g ≡ true) × ((rises f g ≡ true) × (isApart f g ≡ true)))
+    (λ (g : Fragment). stop f ≤ g .offset)
+    (λ g h. let m = leb-true 1 (g .length) (h .0) in
+    in-front f g (not-true (share f g) (h .1 .1)) long m (omega (arith, ltb-true (f .offset) (g .offset) (h .1 .0))))
+    fs
+    (each-both (λ (g : Fragment). hasBytes g ≡ true) (λ (g : Fragment). (rises f g ≡ true) × (isApart f g ≡ true)) fs
+    (all-each hasBytes fs (n′ .1))
+    (each-both (λ (g : Fragment). rises f g ≡ true) (λ (g : Fragment). isApart f g ≡ true) fs (all-each (rises f) fs (r′ .0)) (all-each (isApart f) fs (a′ .0)))) in
+    (b .0, long, tests-in-order (stop f) fs behind (n′ .1) (r′ .1) (a′ .1))
+
+in-order-tests : (at : ℕ) (fs : List Fragment) → InOrder at fs → (all hasBytes fs ≡ true) × (pairwise rises fs ≡ true) × (pairwise isApart fs ≡ true)
+in-order-tests at [] o = (refl, refl, refl)
+in-order-tests at (f ∷ fs) o =
+    let t = in-order-tests (stop f) fs (o .2) in
+    let behind = in-order-from (stop f) fs (o .2) in (
+      rw (le-leb 1 (f .length) (o .1)) (t .0),
+      rw (each-all (rises f) fs (each-weaken (λ (g : Fragment). stop f ≤ g .offset) (λ (g : Fragment). rises f g ≡ true) (λ g b. lt-ltb (f .offset) (g .offset) (omega arith)) fs behind)) (t .1),
+      rw (each-all (isApart f) fs (each-weaken (λ (g : Fragment). stop f ≤ g .offset) (λ (g : Fragment). isApart f g ≡ true) (λ g b. rw (unshared f g b)) fs behind)) (t .2),
+    )
+
+-- All of it, as what has to hold.
+abbrev pub EndBy : ℕ → List Fragment → Type 0
+EndBy room fs = Each (λ (f : Fragment). stop f ≤ room) fs
+
+abbrev pub MarkedLast : List Fragment → Type 0
+MarkedLast [] = Unit {0}
+MarkedLast (f ∷ fs) = (f .marker ≤ markerBefore fs) × MarkedLast fs
+
+pub record InPlace (room : ℕ) (fs : List Fragment) : Type 0 where
+  pub order : InOrder 0 fs
+  pub inside : EndBy room fs
+  pub marked : MarkedLast fs
+
+marked-last : (fs : List Fragment) → markedLast fs ≡ true → MarkedLast fs
+marked-last [] e = tt
+marked-last (f ∷ fs) e = let t = and-true (leb (f .marker) (markerBefore fs)) (markedLast fs) e in (leb-true (f .marker) (markerBefore fs) (t .0), marked-last fs (t .1))
+
+is-marked-last : (fs : List Fragment) → MarkedLast fs → markedLast fs ≡ true
+is-marked-last [] m = refl
+is-marked-last (f ∷ fs) m = rw (le-leb (f .marker) (markerBefore fs) (m .0)) (is-marked-last fs (m .1))
+
+module _ (room : ℕ) (fs : List Fragment) where
+  pub in-place : inPlace room fs ≡ true → InPlace room fs
+  unfolding inPlace
+  in-place e =
+      let a = and-true (all hasBytes fs && pairwise rises fs && pairwise isApart fs && all (endsBy room) fs) (markedLast fs) e in
+      let b = and-true (all hasBytes fs && pairwise rises fs && pairwise isApart fs) (all (endsBy room) fs) (a .0) in
+      let c = and-true (all hasBytes fs && pairwise rises fs) (pairwise isApart fs) (b .0) in
+      let d = and-true (all hasBytes fs) (pairwise rises fs) (c .0) in
+      record {
+        order = tests-in-order 0 fs (from-0 fs) (d .0) (d .1) (c .1);
+        inside = each-weaken (λ (f : Fragment). endsBy room f ≡ true) (λ (f : Fragment). stop f ≤ room) (λ f t. leb-true (stop f) room t) fs (all-each (endsBy room) fs (b .1));
+        marked = marked-last fs (a .1);
+      }
+    where
+      from-0 : (gs : List Fragment) → Each (λ (g : Fragment). 0 ≤ g .offset) gs
+      from-0 [] = tt
+      from-0 (g ∷ gs) = (omega arith, from-0 gs)
+
+  pub is-in-place : InPlace room fs → inPlace room fs ≡ true
+  unfolding inPlace
+  is-in-place p =
+      let t = in-order-tests 0 fs (p .order) in
+      rw (t .0, t .1, t .2, each-all (endsBy room) fs (each-weaken (λ (f : Fragment). stop f ≤ room) (λ (f : Fragment). endsBy room f ≡ true) (λ f b. le-leb (stop f) room b) fs (p .inside)))
+      (is-marked-last fs (p .marked))
+
+-- The same by going through them once: each after the one before it, and what is to be said of the last.
+unfoldable pub follows : Fragment → Fragment → Bool
+follows g f = leb (stop g) (f .offset) && leb 1 (f .length) && eqb (g .marker) 0
+
+abbrev pub last : List Fragment → Fragment
+last fs = lastOf nothing fs
+
+unfoldable pub inLine : ℕ → List Fragment → Bool
+inLine room fs = chained follows nothing fs && leb (stop (last fs)) room && leb (last fs .marker) 1
+
+record Line (room : ℕ) (g : Fragment) (fs : List Fragment) : Type 0 where
+  order : InOrder (stop g) fs
+  inside : EndBy room (g ∷ fs)
+  marked : MarkedLast (g ∷ fs)
+
+module _ (room : ℕ) where
+  line : (g : Fragment) (fs : List Fragment) → chained follows g fs ≡ true → stop (lastOf g fs) ≤ room → lastOf g fs .marker ≤ 1 → Line room g fs
+  unfolding follows
+  line g [] e s m = record { order = tt; inside = (s, tt); marked = (m, tt) }
+  line g (f ∷ fs) e s m =
+      let a = and-true (follows g f) (chained follows f fs) e in
+      let b = and-true (leb (stop g) (f .offset) && leb 1 (f .length)) (eqb (g .marker) 0) (a .0) in
+      let c = and-true (leb (stop g) (f .offset)) (leb 1 (f .length)) (b .0) in
+      let l = line f fs (a .1) s m in
+      let from = leb-true (stop g) (f .offset) (c .0) in
+      record {
+        order = (from, leb-true 1 (f .length) (c .1), l .order);
+        inside = (omega (arith, l .inside .0), l .inside);
+        marked = (omega (arith, eqb-true (g .marker) 0 (b .1)), l .marked);
+      }
+
+  line-tests : (g : Fragment) (fs : List Fragment) → Line room g fs → (chained follows g fs ≡ true) × (stop (lastOf g fs) ≤ room) × (lastOf g fs .marker ≤ 1)
+  unfolding follows
+  line-tests g [] l = (refl, l .inside .0, l .marked .0)
+  line-tests g (f ∷ fs) l =
+      let t = line-tests f fs (record { order = l .order .2; inside = l .inside .1; marked = l .marked .1 }) in
+      (rw (le-leb (stop g) (f .offset) (l .order .0), le-leb 1 (f .length) (l .order .1), eq-eqb (g .marker) 0 (omega (arith, l .marked .0))) (t .0), t .1, t .2)
+
+  pub in-line : (fs : List Fragment) → inLine room fs ≡ inPlace room fs
+  unfolding inLine
+  in-line fs = same-test (inLine room fs) (inPlace room fs) there back
+    where
+      there : inLine room fs ≡ true → inPlace room fs ≡ true
+      there e =
+          let a = and-true (chained follows nothing fs && leb (stop (last fs)) room) (leb (last fs .marker) 1) e in
+          let b = and-true (chained follows nothing fs) (leb (stop (last fs)) room) (a .0) in
+          let l = line nothing fs (b .0) (leb-true (stop (last fs)) room (b .1)) (leb-true (last fs .marker) 1 (a .1)) in
+          is-in-place room fs (record { order = l .order; inside = l .inside .1; marked = l .marked .1 })
+
+      back : inPlace room fs ≡ true → inLine room fs ≡ true
+      back e =
+          let p = in-place room fs e in
+          let t = line-tests nothing fs (record { order = p .order; inside = (omega arith, p .inside); marked = (omega arith, p .marked) }) in
+          rw (t .0, le-leb (stop (last fs)) room (t .1), le-leb (last fs .marker) 1 (t .2))

@@ -1,0 +1,4 @@
+mod Counted
+mod Moved
+mod Used
+mod Zeros

@@ -1,0 +1,17 @@
+-- `state::check::end_given` meets its contract. Assumes nothing.
+use borrow.Author.Needs.{needs}
+use borrow.Author.Tests.{eq-eqb, ne-eqb}
+use Rattle.state.proofs.check.end_given.Statement.{statement}
+use Rattle.state.proofs.check.end_given.Tie as tie
+
+stop-requires : tie.Need-stop-requires
+stop-requires c κs = search needs
+
+returns : tie.Need-returns
+returns c = rw (eq-eqb _ 1 (c .before .if1 .taken)) (c .stop .ensures)
+
+returns-2 : tie.Need-returns-2
+returns-2 c = rw (ne-eqb _ 1 (c .if1 .left))
+
+pub end-given-spec : {M : Type 1} → statement M
+end-given-spec = tie.close (tie.spec stop-requires returns returns-2)

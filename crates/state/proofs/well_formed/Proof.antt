@@ -1,0 +1,95 @@
+-- `state::well_formed` meets its contract: rule by rule. Assumes nothing.
+use borrow.Author.Needs.{needs}
+use borrow.Author.Tests.{not-true, not-false, le-leb, lt-leb}
+use lib.Dec.{leb}
+use mathlib.Core.Bool.{true}
+use mathlib.Core.Path.{_≡_, sym, _∙_}
+use Rattle.state.specs.Receiver.{held, unused, headerOf}
+use Rattle.state.specs.WellFormed.{isRoom, pictureRight, fragmentsRight, tablesRight, wellFormed, fragments-right}
+use Rattle.state.specs.declared.Receiver.{Receiver}
+use Rattle.state.proofs.well_formed.Statement.{statement}
+use Rattle.state.proofs.well_formed.Tie as tie
+
+room : (c : tie.Else1) → isRoom (c .before .before .args .receiver .room) ≡ true
+room c = sym (c .before .is-room .ensures) ∙ not-false _ (c .if1 .left)
+
+counted : (c : tie.Else2) → leb (c .before .before .before .before .args .receiver .«fragment_count») 64 ≡ true
+counted c = le-leb _ 64 (c .if2 .left)
+
+abbrev pictureOf : Receiver → Type 0
+pictureOf r = pictureRight (r .picture) (r .time) (r .«fragment_count») (headerOf r) ≡ true
+
+pictured : (c : tie.Else3) → pictureOf (c .before .before .before .before .before .before .args .receiver)
+pictured c = sym (c .before .picture-right .ensures) ∙ not-false _ (c .if3 .left)
+
+abbrev fragmentsOf : Receiver → Type 0
+fragmentsOf r = fragmentsRight (held r) (unused r) (r .room) (r .end) (r .whole) ≡ true
+
+filed : (c : tie.Else4) → fragmentsOf (c .before .before .before .before .before .before .before .before .before .args .receiver)
+filed c = sym (c .before .fragments-right .ensures) ∙ not-false _ (c .if4 .left)
+
+is-room-requires : tie.Need-is-room-requires
+is-room-requires c κs = search needs
+
+returns : tie.Need-returns
+unfolding wellFormed
+returns c = rw (sym (c .before .is-room .ensures) ∙ not-true _ (c .if1 .taken))
+
+returns-2 : tie.Need-returns-2
+unfolding wellFormed
+returns-2 c = rw (room (c .before .before), lt-leb (c .before .before .before .before .args .receiver .«fragment_count») 64 (c .if2 .taken))
+
+picture-right-requires : tie.Need-picture-right-requires
+picture-right-requires c κs = search needs
+
+returns-3 : tie.Need-returns-3
+unfolding wellFormed
+returns-3 c = rw (room (c .before .before .before .before), counted (c .before .before), sym (c .before .picture-right .ensures) ∙ not-true _ (c .if3 .taken))
+
+fragments-right-requires : tie.Need-fragments-right-requires
+fragments-right-requires c κs = search needs
+
+returns-4 : tie.Need-returns-4
+unfolding wellFormed
+returns-4 c =
+    let p = c .before .before .before in
+    rw (room (p .before .before .before .before), counted (p .before .before), pictured p, sym (c .before .fragments-right .ensures) ∙ not-true _ (c .if4 .taken))
+
+tables-right-requires : tie.Need-tables-right-requires
+tables-right-requires c κs =
+    let r = c .before .before .before .before .before .before .before .before .before .before .args .receiver in
+    (search needs, fragments-right (held r) (unused r) (r .room) (r .end) (r .whole) (filed (c .before)) .in-place .order)
+
+returns-5 : tie.Need-returns-5
+unfolding wellFormed
+returns-5 c =
+    let f = c .before .before .before in
+    let p = f .before .before .before in
+    rw (room (p .before .before .before .before), counted (p .before .before), pictured p, filed f, sym (c .before .tables-right .ensures) ∙ not-true _ (c .if5 .taken))
+
+well-kept-requires : tie.Need-well-kept-requires
+well-kept-requires c κs = search needs
+
+returns-6 : tie.Need-returns-6
+unfolding wellFormed
+returns-6 c =
+    let t = c .before .before in
+    let f = t .before .before .before in
+    let p = f .before .before .before in
+    rw (room (p .before .before .before .before), counted (p .before .before), pictured p, filed f, sym (t .before .tables-right .ensures) ∙ not-false _ (t .if5 .left)) (c .well-kept .ensures)
+
+pub well-formed-spec : {M : Type 1} → statement M
+well-formed-spec =
+    tie.close
+    (tie.spec
+    is-room-requires
+    returns
+    returns-2
+    picture-right-requires
+    returns-3
+    fragments-right-requires
+    returns-4
+    tables-right-requires
+    returns-5
+    well-kept-requires
+    returns-6)

@@ -1,0 +1,146 @@
+// The receiver's state: what it holds, how it is opened, and whether it keeps its own rules.
+mod check;
+pub mod held;
+pub mod kept;
+
+ghost use mathlib.Core.Path.{_≡_};
+ghost use Rattle.state.specs.Opening.{Opens};
+ghost use Rattle.state.specs.Receiver.{fresh};
+ghost use Rattle.state.specs.WellFormed.{isRoom, TellsWellFormed};
+use fragments::Fragment;
+use kept::Kept;
+use replies::ROOM_OUTSIDE;
+use replies::SUCCESS;
+use wire::Header;
+
+// Every field is a number, flags too, and there is no padding: every bit pattern that a host can lend is a state. 0 stands for an end
+// that is not known, and for what is not used.
+#[repr(C)]
+pub struct Receiver {
+    pub source: u32,
+    pub room: u32,
+    pub picture: u32,
+    pub time: u32,
+    pub kind: u32,
+    pub q: u32,
+    pub width: u32,
+    pub height: u32,
+    pub interval: u32,
+    pub end: u32,
+    pub whole: u32,
+    pub fragment_count: u32,
+    pub fragments: [Fragment; 64],
+    pub tables: [u8; 128],
+    pub kept: Kept,
+}
+
+// What a receiver answers: a reply, and how many scan bytes it holds afterwards.
+#[repr(C)]
+pub struct Answer {
+    pub reply: u32,
+    pub held: u32,
+}
+
+#[repr(C)]
+pub struct Opened {
+    pub answer: Answer,
+    pub receiver: Receiver,
+}
+
+// A receiver of a source, with a room of so many bytes for its scan.
+pub fn open(source: u32, room: u32) -> Opened
+    ensures { λ r. ⌜ Opens source room r ⌝ }
+{
+    if !is_room(room) {
+        return Opened {
+            answer: Answer {
+                reply: ROOM_OUTSIDE,
+                held: 0,
+            },
+            receiver: fresh(source, 0),
+        };
+    }
+    Opened {
+        answer: Answer {
+            reply: SUCCESS,
+            held: 0,
+        },
+        receiver: fresh(source, room),
+    }
+}
+
+pub(crate) fn is_room(room: u32) -> bool
+    ensures { λ r. ⌜ r ≡ isRoom room ⌝ }
+{
+    if room < 1 {
+        return false;
+    }
+    room <= 65536
+}
+
+fn fresh(source: u32, room: u32) -> Receiver
+    ensures { λ r. ⌜ r ≡ fresh source room ⌝ }
+{
+    let nothing = held::nothing();
+    let kept = kept::none();
+    Receiver {
+        source,
+        room,
+        picture: 0,
+        time: 0,
+        kind: 0,
+        q: 0,
+        width: 0,
+        height: 0,
+        interval: 0,
+        end: 0,
+        whole: 0,
+        fragment_count: 0,
+        fragments: [nothing; 64],
+        tables: [0; 128],
+        kept,
+    }
+}
+
+// Whether a receiver is one that the calls can have left: reply 9 is for any other.
+pub fn well_formed(receiver: Receiver) -> bool
+    ensures { λ r. ⌜ TellsWellFormed receiver r ⌝ }
+{
+    if !is_room(receiver.room) {
+        return false;
+    }
+    if 64 < receiver.fragment_count {
+        return false;
+    }
+    let header = Header {
+        kind: receiver.kind,
+        q: receiver.q,
+        width: receiver.width,
+        height: receiver.height,
+        interval: receiver.interval,
+    };
+    if !check::picture_right(
+        receiver.picture,
+        receiver.time,
+        receiver.fragment_count,
+        header,
+    ) {
+        return false;
+    }
+    let fragments = receiver.fragments;
+    if !check::fragments_right(
+        fragments,
+        receiver.fragment_count,
+        receiver.room,
+        receiver.end,
+        receiver.whole,
+    ) {
+        return false;
+    }
+    let tables = receiver.tables;
+    if !check::tables_right(fragments, receiver.fragment_count, receiver.q, tables) {
+        return false;
+    }
+    let kept = receiver.kept;
+    kept::well_kept(kept)
+}
