@@ -2,7 +2,7 @@
 use Prim.Native.Nat.{ℕ, zero, suc, _+_, _≤_, _<_}
 use mathlib.Core.Bool.{Bool, true, false, cond, _&&_}
 use mathlib.Core.List.{List, [], _∷_}
-use mathlib.Core.Path.{_≡_, refl, sym, _∙_}
+use mathlib.Core.Path.{_≡_, refl}
 use native.Mathlib.Nat.{not-suc-le-zero, le-of-suc-le-suc}
 use native.Mathlib.Numerals.{add-one}
 use native.Mathlib.Omega.{arith}
@@ -13,7 +13,7 @@ use Rattle.laws.specs.Any.{any, none-any}
 use Rattle.laws.specs.Chained.{lastOf}
 use Rattle.laws.specs.Each.{each-weaken}
 use Rattle.laws.specs.Truth.{split, and-true, and-false, or-true}
-use Rattle.fragments.specs.Fragments.{stop, fragmentAt, nothing}
+use Rattle.fragments.specs.Fragments.{stop, fragmentAt}
 use Rattle.fragments.specs.Order.{InOrder, in-order-from, EndBy, MarkedLast, last}
 use Rattle.fragments.specs.Shared.{holds, held}
 use Rattle.fragments.specs.declared.Fragment.{Fragment}

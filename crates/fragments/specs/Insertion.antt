@@ -1,7 +1,7 @@
 -- Where a fragment goes among those held in offset order. Assumes nothing.
 use Prim.Native.Nat.{ℕ, zero, suc, _+_, _≤_, _<_, max}
-use mathlib.Core.Bool.{Bool, true, false, cond, _&&_, _||_}
-use mathlib.Core.List.{List, [], _∷_, _++_}
+use mathlib.Core.Bool.{Bool, true, false, cond, _||_}
+use mathlib.Core.List.{List, [], _∷_}
 use mathlib.Core.Path.{_≡_, refl, sym, ap, _∙_}
 use native.Mathlib.Numerals.{add-one}
 use native.Mathlib.Omega.{arith}
@@ -12,7 +12,7 @@ use Rattle.laws.specs.Any.{any, none-any}
 use Rattle.laws.specs.Chained.{lastOf}
 use Rattle.laws.specs.Each.{Each, each-weaken}
 use Rattle.laws.specs.Insert.{insertAt, length-insert-at, any-insert-at, each-insert-at}
-use Rattle.laws.specs.Truth.{split, never-both, or-true, or-false}
+use Rattle.laws.specs.Truth.{split, never-both, or-false}
 use Rattle.fragments.specs.Fragments.{stop, fragmentAt, nothing}
 use Rattle.fragments.specs.Held.{total}
 use Rattle.fragments.specs.Order.{InOrder, in-order-from, last}

@@ -4,3 +4,4 @@ pub mod Shared
 pub mod Order
 pub mod Held
 pub mod Insertion
+pub mod Array

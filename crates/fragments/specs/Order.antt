@@ -1,15 +1,15 @@
 -- Fragments in offset order. Assumes nothing.
-use Prim.Native.Nat.{ℕ, zero, suc, _+_, _≤_, _<_}
-use mathlib.Core.Bool.{Bool, true, false, not, _&&_}
+use Prim.Native.Nat.{ℕ, _≤_}
+use mathlib.Core.Bool.{Bool, true, not, _&&_}
 use mathlib.Core.List.{List, [], _∷_}
-use mathlib.Core.Path.{_≡_, refl, sym, _∙_}
+use mathlib.Core.Path.{_≡_, refl}
 use native.Mathlib.Omega.{arith}
 use borrow.Author.Tests.{ltb-true, lt-ltb, leb-true, le-leb, eqb-true, eq-eqb, not-true}
 use lib.Dec.{ltb, leb, eqb}
 use Rattle.laws.specs.All.{all, all-each, each-all, pairwise}
 use Rattle.laws.specs.Chained.{chained, lastOf}
 use Rattle.laws.specs.Each.{Each, each-weaken, each-both}
-use Rattle.laws.specs.Truth.{split, and-true, same-test}
+use Rattle.laws.specs.Truth.{and-true, same-test}
 use Rattle.fragments.specs.Fragments.{stop, nothing}
 use Rattle.fragments.specs.Shared.{share, unshared, in-front}
 use Rattle.fragments.specs.Tiles.{markerBefore}

@@ -1,4 +1,1 @@
-mod Counted
-mod Moved
-mod Used
 mod Zeros

@@ -1,8 +1,7 @@
 -- Numbers that add up to 0 are all 0. Assumes nothing.
 use Prim.Native.Nat.{ℕ, zero, suc, _+_}
-use mathlib.Core.Bool.{true, false, _&&_}
 use mathlib.Core.List.{List, [], _∷_}
-use mathlib.Core.Path.{_≡_, refl, sym, ap, _∙_}
+use mathlib.Core.Path.{_≡_, refl, _∙_}
 use native.Mathlib.Nat.{zero-add, suc-add}
 use lib.Dec.{eqb, eqb·suc-zero}
 use Rattle.fragments.specs.Tiles.{sum}

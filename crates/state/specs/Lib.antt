@@ -1,5 +1,3 @@
-pub mod Kept
 pub mod Receiver
-pub mod Slots
 pub mod WellFormed
 pub mod Opening

@@ -5,7 +5,7 @@ use lib.ListN.{take, drop, replicate}
 use Rattle.fragments.specs.Fragments.{nothing}
 use Rattle.fragments.specs.declared.Fragment.{Fragment}
 use Rattle.wire.specs.declared.Header.{Header}
-use Rattle.state.specs.Kept.{blank, none}
+use Rattle.kept.specs.Kept.{blank, none}
 use Rattle.state.specs.declared.Receiver.{Receiver}
 
 -- the fragments held, and the places that are not used

@@ -1,14 +1,14 @@
 -- The rules of a well-formed receiver, as document 01 has them under "Well formed means". Assumes nothing.
 use Prim.Native.Nat.{ℕ, _≤_}
-use mathlib.Core.Bool.{Bool, true, false, cond, not, _&&_}
+use mathlib.Core.Bool.{Bool, true, cond, not, _&&_}
 use mathlib.Core.List.{List, [], _∷_}
 use mathlib.Core.Path.{_≡_}
 use borrow.Author.Tests.{leb-true, le-leb, eqb-true, eq-eqb}
 use lib.Dec.{eqb, leb}
-use Rattle.fragments.specs.Fragments.{nothing}
+use Rattle.fragments.specs.Array.{isNothing}
 use Rattle.fragments.specs.Held as Held
 use Rattle.fragments.specs.Order.{inPlace, InPlace, in-place, is-in-place}
-use Rattle.fragments.specs.Shared.{holds, alike}
+use Rattle.fragments.specs.Shared.{holds}
 use Rattle.fragments.specs.declared.Fragment.{Fragment}
 use Rattle.laws.specs.All.{all}
 use Rattle.laws.specs.Any.{any}
@@ -20,7 +20,7 @@ use Rattle.wire.specs.Lawful.{isLawful}
 use Rattle.wire.specs.Tables.{isZero}
 use Rattle.wire.specs.TableSource.{tableSource, isMade}
 use Rattle.wire.specs.declared.Header.{Header}
-use Rattle.state.specs.Kept.{wellKept}
+use Rattle.kept.specs.Kept.{wellKept}
 use Rattle.state.specs.Receiver.{held, unused, headerOf}
 use Rattle.state.specs.declared.Receiver.{Receiver}
 
@@ -35,9 +35,6 @@ isUnset time count h = all isZero (time ∷ count ∷ h .kind ∷ h .q ∷ h .wi
 -- A picture's header fields such as the reader can give.
 unfoldable pub pictureRight : ℕ → ℕ → ℕ → Header → Bool
 pictureRight picture time count h = cond (eqb picture 0) (isUnset time count h) (eqb picture 1 && isLawful h)
-
-abbrev pub isNothing : Fragment → Bool
-isNothing f = alike f nothing
 
 -- Whole exactly as defined: a flag of 1 or 0.
 abbrev pub flag : Bool → ℕ

@@ -1,7 +1,5 @@
 // The receiver's state: what it holds, how it is opened, and whether it keeps its own rules.
 mod check;
-pub mod held;
-pub mod kept;
 
 ghost use mathlib.Core.Path.{_≡_};
 ghost use Rattle.state.specs.Opening.{Opens};
@@ -69,7 +67,7 @@ pub fn open(source: u32, room: u32) -> Opened
     }
 }
 
-pub(crate) fn is_room(room: u32) -> bool
+fn is_room(room: u32) -> bool
     ensures { λ r. ⌜ r ≡ isRoom room ⌝ }
 {
     if room < 1 {
@@ -81,7 +79,11 @@ pub(crate) fn is_room(room: u32) -> bool
 fn fresh(source: u32, room: u32) -> Receiver
     ensures { λ r. ⌜ r ≡ fresh source room ⌝ }
 {
-    let nothing = held::nothing();
+    let nothing = Fragment {
+        offset: 0,
+        length: 0,
+        marker: 0,
+    };
     let kept = kept::none();
     Receiver {
         source,

@@ -69,6 +69,10 @@ TellsFull t b = b ≡ areFull t
 
 -- ---- laws
 
+pub full-of-128 : (t : List ℕ) → length t ≡ 128 → areFull t ≡ not (any isZero t)
+unfolding areFull
+full-of-128 t long = rw (eq-eqb (length t) 128 long)
+
 module _ (b : List ℕ) where
   pub tables-at-small : tablesAt b ≤ 16
   unfolding tablesAt

@@ -1,8 +1,7 @@
 -- `state::is_room` meets its contract. Assumes nothing.
-use borrow.Author.Needs.{needs}
-use borrow.Author.Tests.{le-leb}
 use mathlib.Core.Path.{sym}
 use native.Mathlib.Omega.{arith}
+use borrow.Author.Tests.{le-leb}
 use Rattle.laws.specs.Within.{within, is-under}
 use Rattle.state.proofs.is_room.Statement.{statement}
 use Rattle.state.proofs.is_room.Tie as tie

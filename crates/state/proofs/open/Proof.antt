@@ -1,7 +1,7 @@
 -- `state::open` meets its contract. Assumes nothing.
+use mathlib.Core.Path.{sym, _∙_}
 use borrow.Author.Needs.{needs}
 use borrow.Author.Tests.{not-true, not-false}
-use mathlib.Core.Path.{sym, _∙_}
 use Rattle.state.specs.Opening.{opening}
 use Rattle.state.proofs.open.Statement.{statement}
 use Rattle.state.proofs.open.Tie as tie

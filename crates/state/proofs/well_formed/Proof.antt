@@ -1,11 +1,11 @@
 -- `state::well_formed` meets its contract: rule by rule. Assumes nothing.
+use mathlib.Core.Bool.{true}
+use mathlib.Core.Path.{_≡_, sym, _∙_}
 use borrow.Author.Needs.{needs}
 use borrow.Author.Tests.{not-true, not-false, le-leb, lt-leb}
 use lib.Dec.{leb}
-use mathlib.Core.Bool.{true}
-use mathlib.Core.Path.{_≡_, sym, _∙_}
 use Rattle.state.specs.Receiver.{held, unused, headerOf}
-use Rattle.state.specs.WellFormed.{isRoom, pictureRight, fragmentsRight, tablesRight, wellFormed, fragments-right}
+use Rattle.state.specs.WellFormed.{isRoom, pictureRight, fragmentsRight, wellFormed, fragments-right}
 use Rattle.state.specs.declared.Receiver.{Receiver}
 use Rattle.state.proofs.well_formed.Statement.{statement}
 use Rattle.state.proofs.well_formed.Tie as tie

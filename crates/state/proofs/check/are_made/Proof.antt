@@ -1,6 +1,6 @@
 -- `state::check::are_made` meets its contract. Assumes nothing.
-use borrow.Author.Needs.{needs}
 use mathlib.Core.Path.{_∙_, ap}
+use borrow.Author.Needs.{needs}
 use Rattle.laws.specs.Same.{same}
 use Rattle.tables.specs.MakeTables.{makes-all}
 use Rattle.state.proofs.check.are_made.Statement.{statement}

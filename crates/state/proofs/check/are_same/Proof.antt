@@ -1,11 +1,11 @@
 -- `state::check::are_same` meets its contract: after i turns the flag says whether the first i are the same. Assumes nothing.
 use Prim.Native.Nat.{_-_, _≤_}
-use borrow.Author.Needs.{needs}
-use lib.ListN.{take}
-use lib.Seq.{take-all}
 use mathlib.Core.Logic.{⊎-elim}
 use mathlib.Core.Path.{_≡_, sym, _∙_}
 use native.Mathlib.Omega.{arith}
+use borrow.Author.Needs.{needs}
+use lib.ListN.{take}
+use lib.Seq.{take-all}
 use Rattle.laws.specs.Same.{same, same-pass, same-fail}
 use Rattle.state.proofs.check.are_same.Statement.{statement}
 use Rattle.state.proofs.check.are_same.Tie as tie

@@ -1,9 +1,9 @@
 -- `state::check::is_start_held` meets its contract. Assumes nothing.
+use mathlib.Core.Path.{sym, _∙_}
+use native.Mathlib.Omega.{arith}
 use borrow.Author.Needs.{needs}
 use lib.ListN.{take}
 use lib.Seq.{length-take-le, getD-take}
-use mathlib.Core.Path.{sym, _∙_}
-use native.Mathlib.Omega.{arith}
 use Rattle.fragments.specs.Fragments.{nothing}
 use Rattle.fragments.specs.Held.{start-held}
 use Rattle.state.proofs.check.is_start_held.Statement.{statement}

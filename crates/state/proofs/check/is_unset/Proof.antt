@@ -1,9 +1,9 @@
 -- `state::check::is_unset` meets its contract. Assumes nothing.
 use Prim.Native.Nat.{_+_}
-use borrow.Author.Needs.{needs}
 use mathlib.Core.List.{[], _∷_}
 use mathlib.Core.Path.{_≡_, sym}
 use native.Mathlib.Omega.{arith}
+use borrow.Author.Needs.{needs}
 use Rattle.fragments.specs.Tiles.{sum}
 use Rattle.state.specs.WellFormed.{isUnset}
 use Rattle.state.proofs.Zeros.{none-of}

@@ -1,7 +1,7 @@
 -- `state::check::picture_right` meets its contract. Assumes nothing.
+use native.Mathlib.Omega.{arith}
 use borrow.Author.Needs.{needs}
 use borrow.Author.Tests.{eq-eqb, ne-eqb}
-use native.Mathlib.Omega.{arith}
 use Rattle.state.specs.WellFormed.{pictureRight}
 use Rattle.state.proofs.check.picture_right.Statement.{statement}
 use Rattle.state.proofs.check.picture_right.Tie as tie

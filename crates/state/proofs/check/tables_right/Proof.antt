@@ -1,10 +1,11 @@
--- `state::check::tables_right` meets its contract. Assumes nothing.
+-- `state::check::tables_right` meets its contract: by where the tables come from. Assumes nothing.
+use mathlib.Core.Bool.{true}
+use mathlib.Core.Path.{_≡_, sym, _∙_}
 use borrow.Author.Needs.{needs}
 use borrow.Author.Tests.{not-true, not-false}
 use lib.ListN.{take}
-use mathlib.Core.Bool.{true}
-use mathlib.Core.Path.{_≡_, sym, _∙_}
 use Rattle.wire.specs.TableSource.{made-between}
+use Rattle.wire.specs.Tables.{full-of-128}
 use Rattle.state.specs.WellFormed.{startHeld, tablesRight}
 use Rattle.state.proofs.check.tables_right.Statement.{statement}
 use Rattle.state.proofs.check.tables_right.Tie as tie
@@ -34,20 +35,29 @@ are-made-requires c κs = let q = c .before .before .before .before .before .arg
 enum-told-2 : tie.Need-enum-told-2
 enum-told-2 c = search needs
 
-are-without-zero-requires : tie.Need-are-without-zero-requires
-are-without-zero-requires c κs = search needs
+slice-aggregate-are-full : tie.Need-slice-aggregate-are-full
+slice-aggregate-are-full c = search needs
+
+are-full-requires : tie.Need-are-full-requires
+are-full-requires c κs = search needs
 
 enum-told-3 : tie.Need-enum-told-3
 enum-told-3 c = search needs
 
-are-without-zero-requires-2 : tie.Need-are-without-zero-requires-2
-are-without-zero-requires-2 c κs = search needs
+slice-aggregate-are-full-2 : tie.Need-slice-aggregate-are-full-2
+slice-aggregate-are-full-2 c = search needs
+
+are-full-requires-2 : tie.Need-are-full-requires-2
+are-full-requires-2 c κs = search needs
 
 enum-told-4 : tie.Need-enum-told-4
 enum-told-4 c = search needs
 
-are-without-zero-requires-3 : tie.Need-are-without-zero-requires-3
-are-without-zero-requires-3 c κs = search needs
+slice-aggregate-are-full-3 : tie.Need-slice-aggregate-are-full-3
+slice-aggregate-are-full-3 c = search needs
+
+are-full-requires-3 : tie.Need-are-full-requires-3
+are-full-requires-3 c κs = search needs
 
 returns-2 : tie.Need-returns-2
 unfolding tablesRight
@@ -55,15 +65,21 @@ returns-2 c = rw (held (c .before .before .before .before), sym (c .before .befo
 
 returns-3 : tie.Need-returns-3
 unfolding tablesRight
-returns-3 c = rw (held (c .before .before .before .before), sym (c .before .before .before .table-source .ensures) ∙ c .before .enum-told2 .given .1) (c .are-without-zero .ensures)
+returns-3 c =
+    let s = c .before .before .before .before in
+    rw (held (s .before), sym (s .table-source .ensures) ∙ c .before .before .enum-told2 .given .1) (c .are-full .ensures ∙ full-of-128 (s .before .before .before .args .t4) (search needs))
 
 returns-4 : tie.Need-returns-4
 unfolding tablesRight
-returns-4 c = rw (held (c .before .before .before .before), sym (c .before .before .before .table-source .ensures) ∙ c .before .enum-told3 .given .1) (c .are-without-zero2 .ensures)
+returns-4 c =
+    let s = c .before .before .before .before in
+    rw (held (s .before), sym (s .table-source .ensures) ∙ c .before .before .enum-told3 .given .1) (c .are-full2 .ensures ∙ full-of-128 (s .before .before .before .args .t4) (search needs))
 
 returns-5 : tie.Need-returns-5
 unfolding tablesRight
-returns-5 c = rw (held (c .before .before .before .before), sym (c .before .before .before .table-source .ensures) ∙ c .before .enum-told4 .given .1) (c .are-without-zero3 .ensures)
+returns-5 c =
+    let s = c .before .before .before .before in
+    rw (held (s .before), sym (s .table-source .ensures) ∙ c .before .before .enum-told4 .given .1) (c .are-full3 .ensures ∙ full-of-128 (s .before .before .before .args .t4) (search needs))
 
 pub tables-right-spec : {M : Type 1} → statement M
 tables-right-spec =
@@ -76,11 +92,14 @@ tables-right-spec =
     enum-told
     are-made-requires
     enum-told-2
-    are-without-zero-requires
+    slice-aggregate-are-full
+    are-full-requires
     enum-told-3
-    are-without-zero-requires-2
+    slice-aggregate-are-full-2
+    are-full-requires-2
     enum-told-4
-    are-without-zero-requires-3
+    slice-aggregate-are-full-3
+    are-full-requires-3
     returns-2
     returns-3
     returns-4
