@@ -3,11 +3,21 @@ use Prim.Native.Nat.{ℕ}
 use mathlib.Core.Bool.{Bool}
 use mathlib.Core.List.{List}
 use mathlib.Core.Path.{_≡_, sym, _∙_}
+use Rattle.fragments.specs.Array.{Surveys, Places, PutsIn, TellsClear}
+use Rattle.fragments.specs.declared.Fragment.{Fragment}
+use Rattle.fragments.specs.declared.Placed.{Placed}
+use Rattle.fragments.specs.declared.Surveyed.{Surveyed}
+use Rattle.kept.specs.Kept.{IsNone, TellsHas, Finds, Keeps, TellsWell, TellsBlank}
+use Rattle.kept.specs.declared.Kept.{Kept}
 use Rattle.replies.specs.Output.{refused, succeeded, writes-determined}
 use Rattle.replies.specs.declared.Written.{Written}
 use Rattle.sender.specs.Picture.{Picture}
 use Rattle.sender.specs.Sending.{Sends}
 use Rattle.sender.specs.declared.Stamp.{Stamp}
+use Rattle.state.specs.Opening.{Opens}
+use Rattle.state.specs.WellFormed.{TellsWellFormed}
+use Rattle.state.specs.declared.Opened.{Opened}
+use Rattle.state.specs.declared.Receiver.{Receiver}
 use Rattle.tables.specs.MakeTables.{MakesTables}
 use Rattle.wire.specs.Kind.{TellsRestarts}
 use Rattle.wire.specs.Lawful.{TellsLawful}
@@ -61,3 +71,42 @@ are-full tables b b′ x y = only x y
 -- `sender::packet`, and `lj_packet`, which has the same contract
 pub packet : (p : Picture) (size : ℕ) (s : Stamp) (k : ℕ) (before : List ℕ) (w w′ : Written) (after after′ : List ℕ) → Sends p size s k before w after → Sends p size s k before w′ after′ → (w ≡ w′) × (after ≡ after′)
 packet p size s k before w w′ after after′ a b = writes-determined a b
+
+-- `fragments::survey`, `fragments::place`, `fragments::insert` and `fragments::are_clear`
+pub survey : (a : List Fragment) (count : ℕ) (r r′ : Surveyed) → Surveys a count r → Surveys a count r′ → r ≡ r′
+survey a count r r′ x y = only x y
+
+pub place : (a : List Fragment) (count : ℕ) (f : Fragment) (p p′ : Placed) → Places a count f p → Places a count f p′ → p ≡ p′
+place a count f p p′ x y = only x y
+
+pub insert : (a : List Fragment) (count at : ℕ) (f : Fragment) (l l′ : List Fragment) → PutsIn a count at f l → PutsIn a count at f l′ → l ≡ l′
+insert a count at f l l′ x y = only x y
+
+pub are-clear : (a : List Fragment) (count : ℕ) (b b′ : Bool) → TellsClear a count b → TellsClear a count b′ → b ≡ b′
+are-clear a count b b′ x y = only x y
+
+-- the store: `kept::none`, `kept::has`, `kept::find`, `kept::keep`, `kept::well_kept` and `kept::is_blank`
+pub none : (k k′ : Kept) → IsNone k → IsNone k′ → k ≡ k′
+none k k′ x y = only x y
+
+pub has : (k : Kept) (q : ℕ) (b b′ : Bool) → TellsHas k q b → TellsHas k q b′ → b ≡ b′
+has k q b b′ x y = only x y
+
+pub find : (k : Kept) (q : ℕ) (l l′ : List ℕ) → Finds k q l → Finds k q l′ → l ≡ l′
+find k q l l′ x y = only x y
+
+pub keep : (k : Kept) (q : ℕ) (tables : List ℕ) (r r′ : Kept) → Keeps k q tables r → Keeps k q tables r′ → r ≡ r′
+keep k q tables r r′ x y = only x y
+
+pub well-kept : (k : Kept) (b b′ : Bool) → TellsWell k b → TellsWell k b′ → b ≡ b′
+well-kept k b b′ x y = only x y
+
+pub is-blank : (tables : List ℕ) (b b′ : Bool) → TellsBlank tables b → TellsBlank tables b′ → b ≡ b′
+is-blank tables b b′ x y = only x y
+
+-- `state::open` and `state::well_formed`
+pub opens : (source room : ℕ) (o o′ : Opened) → Opens source room o → Opens source room o′ → o ≡ o′
+opens source room o o′ x y = only x y
+
+pub well-formed : (r : Receiver) (b b′ : Bool) → TellsWellFormed r b → TellsWellFormed r b′ → b ≡ b′
+well-formed r b b′ x y = only x y

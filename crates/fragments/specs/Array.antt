@@ -1,23 +1,34 @@
 -- The fragments held in an array of 64 places: the first `count` of them. Assumes nothing.
-use Prim.Native.Nat.{ℕ, suc}
+use Prim.Native.Nat.{ℕ, zero, suc, _≤_, _<_}
 use mathlib.Core.Bool.{Bool, cond, _&&_}
-use mathlib.Core.List.{List, [], _∷_, _++_}
-use mathlib.Core.Path.{_≡_}
-use lib.Dec.{ltb, leb}
-use lib.ListN.{take, drop}
+use mathlib.Core.List.{List, _++_}
+use mathlib.Core.Path.{_≡_, refl, ap, _∙_}
+use native.Mathlib.Omega.{arith}
+use borrow.Author.Tests.{lt-ltb}
+use lib.Dec.{ltb, leb, eqb}
+use lib.ListN.{length, take, drop}
+use lib.Seq.{length-take-le, getD-take, take-append-seam, drop-append-seam}
 use Rattle.laws.specs.All.{all}
-use Rattle.laws.specs.Insert.{insertAt}
-use Rattle.fragments.specs.Fragments.{nothing}
-use Rattle.fragments.specs.Held.{total, endOf}
+use Rattle.laws.specs.Any.{any}
+use Rattle.laws.specs.Chained.{chained}
+use Rattle.laws.specs.Insert.{insertAt, length-insert-at}
+use Rattle.fragments.specs.Fragments.{stop, fragmentAt, nothing}
+use Rattle.fragments.specs.Held.{total, start-held}
 use Rattle.fragments.specs.Insertion.{place, inFront}
-use Rattle.fragments.specs.Order.{inPlace, last}
-use Rattle.fragments.specs.Shared.{share, alike}
+use Rattle.fragments.specs.Order.{follows, last, InOrder}
+use Rattle.fragments.specs.Shared.{holds, share, alike}
 use Rattle.fragments.specs.declared.Fragment.{Fragment}
 use Rattle.fragments.specs.declared.Placed.{Placed}
+use Rattle.fragments.specs.declared.Surveyed.{Surveyed}
 
--- The outcome of `bytes`.
-abbrev pub TellsBytes : List Fragment → ℕ → ℕ → Type 0
-TellsBytes a count sum = sum ≡ total (take count a)
+-- What a pass over fragments tells of them: whether each follows the one before it, where the last ends and its marker, and how many
+-- bytes they have.
+abbrev pub surveyed : List Fragment → Surveyed
+surveyed fs = record { line = chained follows nothing fs; stop = stop (last fs); marker = last fs .marker; bytes = total fs }
+
+-- The outcome of `survey`.
+abbrev pub Surveys : List Fragment → ℕ → Surveyed → Type 0
+Surveys a count s = s ≡ surveyed (take count a)
 
 -- Where a fragment goes, and what it has to do with the one in front of that place.
 abbrev pub placed : Fragment → List Fragment → Placed
@@ -35,10 +46,6 @@ putIn n i f a = insertAt i f (take n a) ++ drop (suc n) a
 abbrev pub PutsIn : List Fragment → ℕ → ℕ → Fragment → List Fragment → Type 0
 PutsIn a n i f b = b ≡ cond (ltb n 64 && leb i n) (putIn n i f a) a
 
--- The outcome of `are_in_place`.
-abbrev pub TellsInPlace : List Fragment → ℕ → ℕ → Bool → Type 0
-TellsInPlace a count room b = b ≡ inPlace room (take count a)
-
 -- A place that is not used.
 abbrev pub isNothing : Fragment → Bool
 isNothing f = alike f nothing
@@ -47,10 +54,24 @@ isNothing f = alike f nothing
 abbrev pub TellsClear : List Fragment → ℕ → Bool → Type 0
 TellsClear a count b = b ≡ all isNothing (drop count a)
 
--- The end that the last gives by itself.
-abbrev pub endByLast : List Fragment → ℕ
-endByLast fs = endOf (last fs ∷ [])
+-- ---- laws
 
--- The outcome of `end_by_last`.
-abbrev pub TellsEnd : List Fragment → ℕ → ℕ → Type 0
-TellsEnd a count e = e ≡ endByLast (take count a)
+-- byte 0 is held exactly where there is a first and it begins there
+pub first-starts : (a : List Fragment) (count : ℕ) → count ≤ length a → InOrder 0 (take count a) → any (holds 0) (take count a) ≡ (ltb 0 count && eqb (fragmentAt a 0 .offset) 0)
+first-starts a zero h o = refl
+first-starts a (suc n) h o =
+    start-held (take (suc n) a) (rw (length-take-le (suc n) a h) (omega arith)) o
+    ∙ rw (getD-take (suc n) a 0 nothing (omega arith), lt-ltb 0 (suc n) (omega arith))
+
+-- one more put in: the first n + 1 hold it at its place, and what is behind is as it was
+module _ (a : List Fragment) (n i : ℕ) (f : Fragment) (room : n < length a) where
+  size : length (insertAt i f (take n a)) ≡ suc n
+  size = length-insert-at i f (take n a) ∙ ap suc (length-take-le n a (omega arith))
+
+  pub put-in-front : take (suc n) (putIn n i f a) ≡ insertAt i f (take n a)
+  unfolding putIn
+  put-in-front = rw (← size) (take-append-seam (insertAt i f (take n a)) (drop (length (insertAt i f (take n a))) a))
+
+  pub put-in-behind : drop (suc n) (putIn n i f a) ≡ drop (suc n) a
+  unfolding putIn
+  put-in-behind = rw (← size) (drop-append-seam (insertAt i f (take n a)) (drop (length (insertAt i f (take n a))) a))

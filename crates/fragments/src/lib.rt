@@ -1,14 +1,14 @@
 // Fragments of a scan, and up to 64 of them held in offset order: the first of an array of 64 places. A count that says more than 64
 // counts all of them, and no sum wraps, whatever the fields are.
 mod pair;
-mod pass;
 
-ghost use Prim.Native.Nat.{_≤_, min};
+ghost use Prim.Native.Nat.{min};
 ghost use mathlib.Core.Path.{_≡_};
-ghost use lib.ListN.{take};
-ghost use Rattle.fragments.specs.Array.{TellsBytes, Places, PutsIn, TellsInPlace, TellsClear, TellsEnd};
+ghost use Rattle.fragments.specs.Array.{Surveys, Places, PutsIn, TellsClear};
 ghost use Rattle.fragments.specs.Fragments as Fragments;
-ghost use Rattle.fragments.specs.Order.{last};
+use pair::alike;
+use pair::follows;
+use pair::share;
 
 // The part of a scan that a packet carries: the bytes from an offset on, so many of them; and the marker, 1 on the last of its
 // picture and 0 on any other.
@@ -19,6 +19,14 @@ pub struct Fragment {
     pub marker: u32,
 }
 
+// Of fragments in a row: whether each follows the one before it, where the last ends and its marker, and how many bytes they have.
+pub struct Surveyed {
+    pub line: bool,
+    pub stop: u64,
+    pub marker: u32,
+    pub bytes: u64,
+}
+
 // Where a fragment goes: behind so many of those held; and whether it shares a byte with the one in front of that place, or is the
 // same.
 pub struct Placed {
@@ -27,59 +35,75 @@ pub struct Placed {
     pub same: bool,
 }
 
-// How many bytes the first `count` have.
-pub fn bytes(fragments: [Fragment; 64], count: u32) -> u64
-    ensures { λ r. ⌜ TellsBytes fragments count r ⌝ }
+// What one pass over the first `count` tells. It counts those that do not follow the one before and has no early way out, so that
+// the compiler can vectorise it.
+pub fn survey(fragments: [Fragment; 64], count: u32) -> Surveyed
+    ensures { λ r. ⌜ Surveys fragments count r ⌝ }
 {
     let n = used(count);
-    let mut sum: u64 = 0;
+    let mut wrong: u32 = 0;
+    let mut bytes: u64 = 0;
+    let mut last = nothing();
     for i in 0..n {
         let f = fragments[i];
-        sum += f.length as u64;
+        if !follows(last, f) {
+            wrong += 1;
+        }
+        bytes += f.length as u64;
+        last = f;
     }
-    sum
+    Surveyed {
+        line: wrong == 0,
+        stop: stop(last),
+        marker: last.marker,
+        bytes,
+    }
 }
 
-// Where a fragment goes among the first `count`.
+// Where a fragment goes among the first `count`: one pass in offset order, up to the first that begins where it ends or later.
 pub fn place(fragments: [Fragment; 64], count: u32, f: Fragment) -> Placed
     ensures { λ r. ⌜ Places fragments count f r ⌝ }
 {
-    let at = pass::place_of(fragments, used(count), f);
-    let g = last_of(fragments, at);
+    let n = used(count);
+    let end = stop(f);
+    let mut at = 0;
+    let mut front = nothing();
+    while at < n {
+        let g = fragments[at];
+        if end <= g.offset as u64 {
+            break;
+        }
+        front = g;
+        at += 1;
+    }
     Placed {
         at,
-        shares: pair::share(f, g),
-        same: pair::alike(f, g),
+        shares: share(f, front),
+        same: alike(f, front),
     }
 }
 
-// The fragments with one more at a place of the first `count`; as they were where there is no such place, or all 64 are used.
+// The fragments with one more at a place of the first `count`: those from there on move up, the last first. As they were where there
+// is no such place, or all 64 are used.
 pub fn insert(fragments: [Fragment; 64], count: u32, at: usize, f: Fragment) -> [Fragment; 64]
     ensures { λ r. ⌜ PutsIn fragments count at f r ⌝ }
 {
+    let mut a = fragments;
     if 64 <= count {
-        return fragments;
+        return a;
     }
-    let n = count as usize;
-    if n < at {
-        return fragments;
+    let mut j = count as usize;
+    if j < at {
+        return a;
     }
-    pass::put_in(fragments, n, at, f)
-}
-
-// Whether the first `count` are in order within a room, with a marker on the last at most.
-pub fn are_in_place(fragments: [Fragment; 64], count: u32, room: u32) -> bool
-    ensures { λ r. ⌜ TellsInPlace fragments count room r ⌝ }
-{
-    let n = used(count);
-    if !pass::are_in_line(fragments, n) {
-        return false;
+    while at < j {
+        let below = j - 1;
+        let g = a[below];
+        a[j] = g;
+        j = below;
     }
-    let last = last_of(fragments, n);
-    if (room as u64) < stop(last) {
-        return false;
-    }
-    last.marker <= 1
+    a[at] = f;
+    a
 }
 
 // Whether the places behind the first `count` are unused: all their numbers 0.
@@ -90,19 +114,11 @@ pub fn are_clear(fragments: [Fragment; 64], count: u32) -> bool
     let mut wrong: u32 = 0;
     for i in n..64 {
         let f = fragments[i];
-        if !pair::alike(f, nothing()) {
+        if !alike(f, nothing()) {
             wrong += 1;
         }
     }
     wrong == 0
-}
-
-// The end that the last of the first `count` gives: its own, if it has the marker, and else 0.
-pub fn end_by_last(fragments: [Fragment; 64], count: u32) -> u64
-    ensures { λ r. ⌜ TellsEnd fragments count r ⌝ }
-{
-    let last = last_of(fragments, used(count));
-    if last.marker == 1 { stop(last) } else { 0 }
 }
 
 pub(crate) fn nothing() -> Fragment
@@ -119,16 +135,6 @@ pub(crate) fn stop(f: Fragment) -> u64
     ensures { λ r. ⌜ r ≡ Fragments.stop f ⌝ }
 {
     f.offset as u64 + f.length as u64
-}
-
-fn last_of(fragments: [Fragment; 64], n: usize) -> Fragment
-    requires { ⌜ n ≤ 64 ⌝ }
-    ensures { λ r. ⌜ r ≡ last (take n fragments) ⌝ }
-{
-    if n == 0 {
-        return nothing();
-    }
-    fragments[n - 1]
 }
 
 // How many of the 64 places a count takes.

@@ -1,13 +1,16 @@
 -- The store: the last tables received for one Q of 128 to 254. Assumes nothing.
 use Prim.Native.Nat.{ℕ}
-use mathlib.Core.Bool.{Bool, cond, not, _&&_}
+use mathlib.Core.Bool.{Bool, true, false, cond, not, _&&_}
 use mathlib.Core.List.{List}
-use mathlib.Core.Path.{_≡_}
+use mathlib.Core.Path.{_≡_, refl}
+use native.Mathlib.Omega.{arith}
+use borrow.Author.Tests.{eqb-true, eq-eqb, ne-eqb, not-true}
 use lib.Dec.{eqb}
 use lib.ListN.{replicate}
 use Rattle.laws.specs.All.{all}
 use Rattle.laws.specs.Any.{any}
-use Rattle.wire.specs.TableSource.{tableSource, isKeptOrBrought}
+use Rattle.laws.specs.Truth.{split, and-true}
+use Rattle.wire.specs.TableSource.{tableSource, isKeptOrBrought, kept-or-brought-between}
 use Rattle.wire.specs.Tables.{isZero}
 use Rattle.kept.specs.declared.Kept.{Kept}
 
@@ -54,3 +57,47 @@ TellsWell k b = b ≡ wellKept k
 
 abbrev pub TellsBlank : List ℕ → Bool → Type 0
 TellsBlank tables b = b ≡ all isZero tables
+
+-- ---- laws
+
+-- an empty store is one
+pub none-well : wellKept none ≡ true
+unfolding wellKept blank
+none-well = refl
+
+pub has-none : (q : ℕ) → has none q ≡ false
+unfolding has
+has-none q = split (isKeepable q)
+    (λ e. rw (e, ne-eqb 0 q (λ z. omega (arith, kept-or-brought-between q e))))
+    (λ e. rw e)
+
+module _ (k : Kept) (q : ℕ) (tables : List ℕ) where
+  -- tables of such a Q are found again as they were kept
+  pub has-kept : isKeepable q ≡ true → has (keep k q tables) q ≡ true
+  unfolding has keep
+  has-kept e = rw (e, eq-eqb q q refl)
+
+  pub find-kept : isKeepable q ≡ true → find (keep k q tables) q ≡ tables
+  unfolding find has keep
+  find-kept e = rw (e, eq-eqb q q refl)
+
+  -- and no others change the store
+  pub keeps-none : isKeepable q ≡ false → keep k q tables ≡ k
+  unfolding keep
+  keeps-none e = rw e
+
+  -- tables without a 0 leave a store that is one
+  pub keep-well : wellKept k ≡ true → any isZero tables ≡ false → wellKept (keep k q tables) ≡ true
+  unfolding keep wellKept
+  keep-well w full = split (isKeepable q)
+      (λ e. rw (e, ne-eqb q 0 (λ z. omega (arith, kept-or-brought-between q e)), e, full))
+      (λ e. rw e w)
+
+-- what is found in a store that is one has no 0
+pub find-full : (k : Kept) (q : ℕ) → wellKept k ≡ true → has k q ≡ true → any isZero (find k q) ≡ false
+unfolding find has wellKept
+find-full k q w h =
+    let t = and-true (isKeepable q) (eqb (k .q) q) h in
+    let same = eqb-true (k .q) q (t .1) in
+    let rest = rw (ne-eqb (k .q) 0 (λ z. omega (arith, kept-or-brought-between q (t .0)))) at w in
+    rw h (not-true (any isZero (k .tables)) (and-true (isKeepable (k .q)) (not (any isZero (k .tables))) rest .1))

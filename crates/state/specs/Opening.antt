@@ -1,14 +1,19 @@
 -- Opening a receiver. Assumes nothing.
 use Prim.Native.Nat.{ℕ}
-use mathlib.Core.Bool.{cond}
-use mathlib.Core.Path.{_≡_}
+use mathlib.Core.Bool.{true, false, cond}
+use mathlib.Core.Path.{_≡_, refl}
+use native.Mathlib.Omega.{arith}
+use Rattle.fragments.specs.Held.{reached}
+use Rattle.fragments.specs.Shared.{alike}
+use Rattle.kept.specs.Kept.{blank, none-well}
+use Rattle.laws.specs.Within.{Between, is-within, is-under}
 use Rattle.replies.specs.Reply
-use Rattle.state.specs.Receiver.{fresh}
-use Rattle.state.specs.WellFormed.{isRoom}
+use Rattle.state.specs.Receiver.{noFragments, fresh}
+use Rattle.state.specs.WellFormed.{isRoom, isUnset, pictureRight, tablesGiven, wellFormed, is-well-formed}
 use Rattle.state.specs.declared.Opened.{Opened}
 use Rattle.state.specs.declared.Receiver.{Receiver}
 
-abbrev opened : ℕ → Receiver → Opened
+abbrev pub opened : ℕ → Receiver → Opened
 opened reply r = record { answer = record { reply = reply; held = 0 }; receiver = r }
 
 -- A room of 1 to 65,536 opens; any other gives a fresh receiver with room 0.
@@ -18,3 +23,25 @@ opening source room = cond (isRoom room) (opened Reply.success (fresh source roo
 -- The outcome of `open`.
 abbrev pub Opens : ℕ → ℕ → Opened → Type 0
 Opens source room o = o ≡ opening source room
+
+-- ---- laws
+
+pub opens : (source room : ℕ) → Between 1 65536 room → opening source room ≡ opened Reply.success (fresh source room)
+unfolding opening
+opens source room b = rw (is-within 1 65536 room (b .0) (b .1))
+
+-- what is opened is well formed, and a receiver with room 0 is not
+pub fresh-well-formed : (source room : ℕ) → Between 1 65536 room → wellFormed (fresh source room) ≡ true
+unfolding pictureRight isUnset tablesGiven noFragments blank alike reached
+fresh-well-formed source room b = is-well-formed (fresh source room) (record {
+  room = b;
+  count = omega arith;
+  picture = refl;
+  fragments = record { in-place = record { order = tt; inside = tt; marked = tt }; unused = refl; end = refl; whole = refl };
+  tables = refl;
+  kept = none-well;
+})
+
+pub no-room : (r : Receiver) → r .room ≡ 0 → wellFormed r ≡ false
+unfolding wellFormed
+no-room r z = rw (is-under 1 65536 (r .room) (omega arith))

@@ -3,6 +3,7 @@ use Prim.Native.Nat.{ℕ, _≤_}
 use mathlib.Core.Bool.{Bool, true, cond, not, _&&_}
 use mathlib.Core.List.{List, [], _∷_}
 use mathlib.Core.Path.{_≡_}
+use native.Mathlib.Omega.{arith}
 use borrow.Author.Tests.{leb-true, le-leb, eqb-true, eq-eqb}
 use lib.Dec.{eqb, leb}
 use Rattle.fragments.specs.Array.{isNothing}
@@ -54,8 +55,11 @@ startHeld fs = any (holds 0) fs
 abbrev pub areOf : ℕ → List ℕ → Bool
 areOf q tables = cond (isMade (tableSource q)) (same tables (tablesOf q)) (not (any isZero tables))
 
-unfoldable pub tablesRight : List Fragment → ℕ → List ℕ → Bool
-tablesRight fs q tables = cond (startHeld fs) (areOf q tables) (all isZero tables)
+unfoldable pub tablesGiven : Bool → ℕ → List ℕ → Bool
+tablesGiven started q tables = cond started (areOf q tables) (all isZero tables)
+
+abbrev pub tablesRight : List Fragment → ℕ → List ℕ → Bool
+tablesRight fs q tables = tablesGiven (startHeld fs) q tables
 
 -- Nothing else is tested.
 unfoldable pub wellFormed : Receiver → Bool
@@ -128,3 +132,9 @@ module _ (r : Receiver) where
   is-well-formed w =
       rw (is-within 1 65536 (r .room) (w .room .0) (w .room .1), le-leb (r .«fragment_count») 64 (w .count), w .picture, are-right (held r) (unused r) (r .room) (r .end) (r .whole) (w .fragments), w .tables)
       (w .kept)
+
+-- it holds no more bytes than its room has
+pub held-within-room : {r : Receiver} → WellFormed r → Held.total (held r) ≤ r .room
+held-within-room {r} w =
+    let p = w .fragments .in-place in
+    omega (arith, Held.total-within 0 (r .room) (held r) (p .order) (p .inside) (omega arith))

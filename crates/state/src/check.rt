@@ -1,15 +1,16 @@
 // The rules of a well-formed receiver. Reply 9 asks for them in every call: each loop, here and below, goes over all that it judges,
 // with no early way out.
-ghost use Prim.Native.Nat.{_≤_};
+ghost use mathlib.Core.Bool.{cond, _&&_};
 ghost use mathlib.Core.Path.{_≡_};
-ghost use lib.ListN.{take, drop};
+ghost use lib.Dec.{ltb, leb, eqb};
+ghost use lib.ListN.{length, take, drop};
 ghost use Rattle.fragments.specs.Held.{reached};
-ghost use Rattle.fragments.specs.Order.{InOrder};
 ghost use Rattle.laws.specs.Same.{same};
 ghost use Rattle.laws.specs.Within.{Between};
 ghost use Rattle.tables.specs.Quantiser.{tablesOf};
 ghost use Rattle.state.specs.WellFormed as Rule;
 use fragments::Fragment;
+use fragments::Surveyed;
 use wire::Header;
 use wire::TableSource;
 
@@ -32,6 +33,7 @@ fn is_unset(time: u32, count: u32, header: Header) -> bool
     time as u64 + count as u64 + fields == 0
 }
 
+// The second clause hands on what the array's type says, which the prover does not know of a struct's field.
 pub(crate) fn fragments_right(
     fragments: [Fragment; 64],
     count: u32,
@@ -40,17 +42,38 @@ pub(crate) fn fragments_right(
     whole: u32,
 ) -> bool
     ensures { λ r. ⌜ r ≡ Rule.fragmentsRight (take count fragments) (drop count fragments) room end whole ⌝ }
+    ensures { λ r. ⌜ length fragments ≡ 64 ⌝ }
 {
-    if !fragments::are_in_place(fragments, count, room) {
+    let survey = fragments::survey(fragments, count);
+    if !are_in_place(survey, room) {
         return false;
     }
     if !fragments::are_clear(fragments, count) {
         return false;
     }
-    if end as u64 != fragments::end_by_last(fragments, count) {
+    if end as u64 != end_given(survey) {
         return false;
     }
-    whole == whole_flag(end, fragments::bytes(fragments, count))
+    whole == whole_flag(end, survey.bytes)
+}
+
+fn are_in_place(survey: Surveyed, room: u32) -> bool
+    ensures { λ r. ⌜ r ≡ (survey .line && leb (survey .stop) room && leb (survey .marker) 1) ⌝ }
+{
+    if !survey.line {
+        return false;
+    }
+    if (room as u64) < survey.stop {
+        return false;
+    }
+    survey.marker <= 1
+}
+
+// The end that the last fragment gives: its own, if it has the marker, and else 0.
+fn end_given(survey: Surveyed) -> u64
+    ensures { λ r. ⌜ r ≡ cond (eqb (survey .marker) 1) (survey .stop) 0 ⌝ }
+{
+    if survey.marker == 1 { survey.stop } else { 0 }
 }
 
 // 1 where the end is known and so many bytes reach it.
@@ -63,12 +86,11 @@ fn whole_flag(end: u32, bytes: u64) -> u32
     if bytes == end as u64 { 1 } else { 0 }
 }
 
-// Whether the picture's tables are as its Q and what is held of it ask.
-pub(crate) fn tables_right(fragments: [Fragment; 64], count: u32, q: u32, tables: [u8; 128]) -> bool
-    requires { ⌜ (count ≤ 64) × InOrder 0 (take count fragments) ⌝ }
-    ensures { λ r. ⌜ r ≡ Rule.tablesRight (take count fragments) q tables ⌝ }
+// Whether the picture's tables are as its Q and what is held of it ask, by the first of `count` fragments.
+pub(crate) fn tables_right(first: Fragment, count: u32, q: u32, tables: [u8; 128]) -> bool
+    ensures { λ r. ⌜ r ≡ Rule.tablesGiven (ltb 0 count && eqb (first .offset) 0) q tables ⌝ }
 {
-    if !is_start_held(fragments, count) {
+    if !is_start(first, count) {
         return kept::is_blank(tables);
     }
     match wire::table_source(q) {
@@ -79,16 +101,14 @@ pub(crate) fn tables_right(fragments: [Fragment; 64], count: u32, q: u32, tables
     }
 }
 
-// Whether byte 0 of the scan is held: by the first, since they are in order.
-fn is_start_held(fragments: [Fragment; 64], count: u32) -> bool
-    requires { ⌜ (count ≤ 64) × InOrder 0 (take count fragments) ⌝ }
-    ensures { λ r. ⌜ r ≡ Rule.startHeld (take count fragments) ⌝ }
+// Whether there is a first fragment, and it begins with byte 0 of the scan.
+fn is_start(first: Fragment, count: u32) -> bool
+    ensures { λ r. ⌜ r ≡ (ltb 0 count && eqb (first .offset) 0) ⌝ }
 {
     if count == 0 {
         return false;
     }
-    let f = fragments[0];
-    f.offset == 0
+    first.offset == 0
 }
 
 // Whether these are the tables made for a Q.

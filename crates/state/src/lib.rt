@@ -140,7 +140,7 @@ pub fn well_formed(receiver: Receiver) -> bool
         return false;
     }
     let tables = receiver.tables;
-    if !check::tables_right(fragments, receiver.fragment_count, receiver.q, tables) {
+    if !check::tables_right(fragments[0], receiver.fragment_count, receiver.q, tables) {
         return false;
     }
     let kept = receiver.kept;

@@ -1,11 +1,15 @@
 -- `state::well_formed` meets its contract: rule by rule. Assumes nothing.
-use mathlib.Core.Bool.{true}
-use mathlib.Core.Path.{_≡_, sym, _∙_}
+use Prim.Native.Nat.{_≤_}
+use mathlib.Core.Bool.{Bool, true}
+use mathlib.Core.Path.{_≡_, sym, ap, _∙_}
+use native.Mathlib.Omega.{arith}
 use borrow.Author.Needs.{needs}
 use borrow.Author.Tests.{not-true, not-false, le-leb, lt-leb}
 use lib.Dec.{leb}
+use lib.ListN.{length}
+use Rattle.fragments.specs.Array.{first-starts}
 use Rattle.state.specs.Receiver.{held, unused, headerOf}
-use Rattle.state.specs.WellFormed.{isRoom, pictureRight, fragmentsRight, wellFormed, fragments-right}
+use Rattle.state.specs.WellFormed.{isRoom, pictureRight, fragmentsRight, tablesGiven, tablesRight, wellFormed, fragments-right}
 use Rattle.state.specs.declared.Receiver.{Receiver}
 use Rattle.state.proofs.well_formed.Statement.{statement}
 use Rattle.state.proofs.well_formed.Tie as tie
@@ -26,7 +30,18 @@ abbrev fragmentsOf : Receiver → Type 0
 fragmentsOf r = fragmentsRight (held r) (unused r) (r .room) (r .end) (r .whole) ≡ true
 
 filed : (c : tie.Else4) → fragmentsOf (c .before .before .before .before .before .before .before .before .before .args .receiver)
-filed c = sym (c .before .fragments-right .ensures) ∙ not-false _ (c .if4 .left)
+filed c = sym (c .before .fragments-right .ensures .0) ∙ not-false _ (c .if4 .left)
+
+abbrev tablesOfReceiver : Receiver → Bool
+tablesOfReceiver r = tablesRight (held r) (r .q) (r .tables)
+
+tabled : (c : tie.After-tables-right) → c .tables-right .result ≡ tablesOfReceiver (c .before .before .before .before .before .before .before .before .before .before .before .before .args .receiver)
+tabled c =
+    let f = c .before .before .before in
+    let r = f .before .before .before .before .before .before .before .before .before .args .receiver in
+    let few : r .«fragment_count» ≤ length (r .fragments) = omega (arith, f .before .fragments-right .ensures .1, f .before .before .before .before .before .if2 .left) in
+    let order = fragments-right (held r) (unused r) (r .room) (r .end) (r .whole) (filed f) .in-place .order in
+    c .tables-right .ensures ∙ ap (λ (b : Bool). tablesGiven b (r .q) (r .tables)) (sym (first-starts (r .fragments) (r .«fragment_count») few order))
 
 is-room-requires : tie.Need-is-room-requires
 is-room-requires c κs = search needs
@@ -53,19 +68,20 @@ returns-4 : tie.Need-returns-4
 unfolding wellFormed
 returns-4 c =
     let p = c .before .before .before in
-    rw (room (p .before .before .before .before), counted (p .before .before), pictured p, sym (c .before .fragments-right .ensures) ∙ not-true _ (c .if4 .taken))
+    rw (room (p .before .before .before .before), counted (p .before .before), pictured p, sym (c .before .fragments-right .ensures .0) ∙ not-true _ (c .if4 .taken))
+
+array-copy-out-tables-right : tie.Need-array-copy-out-tables-right
+array-copy-out-tables-right c = search needs
 
 tables-right-requires : tie.Need-tables-right-requires
-tables-right-requires c κs =
-    let r = c .before .before .before .before .before .before .before .before .before .before .args .receiver in
-    (search needs, fragments-right (held r) (unused r) (r .room) (r .end) (r .whole) (filed (c .before)) .in-place .order)
+tables-right-requires c κs = search needs
 
 returns-5 : tie.Need-returns-5
 unfolding wellFormed
 returns-5 c =
-    let f = c .before .before .before in
+    let f = c .before .before .before .before in
     let p = f .before .before .before in
-    rw (room (p .before .before .before .before), counted (p .before .before), pictured p, filed f, sym (c .before .tables-right .ensures) ∙ not-true _ (c .if5 .taken))
+    rw (room (p .before .before .before .before), counted (p .before .before), pictured p, filed f, sym (tabled (c .before)) ∙ not-true _ (c .if5 .taken))
 
 well-kept-requires : tie.Need-well-kept-requires
 well-kept-requires c κs = search needs
@@ -74,9 +90,9 @@ returns-6 : tie.Need-returns-6
 unfolding wellFormed
 returns-6 c =
     let t = c .before .before in
-    let f = t .before .before .before in
+    let f = t .before .before .before .before in
     let p = f .before .before .before in
-    rw (room (p .before .before .before .before), counted (p .before .before), pictured p, filed f, sym (t .before .tables-right .ensures) ∙ not-false _ (t .if5 .left)) (c .well-kept .ensures)
+    rw (room (p .before .before .before .before), counted (p .before .before), pictured p, filed f, sym (tabled (t .before)) ∙ not-false _ (t .if5 .left)) (c .well-kept .ensures)
 
 pub well-formed-spec : {M : Type 1} → statement M
 well-formed-spec =
@@ -89,6 +105,7 @@ well-formed-spec =
     returns-3
     fragments-right-requires
     returns-4
+    array-copy-out-tables-right
     tables-right-requires
     returns-5
     well-kept-requires

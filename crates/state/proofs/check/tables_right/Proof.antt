@@ -1,27 +1,27 @@
 -- `state::check::tables_right` meets its contract: by where the tables come from. Assumes nothing.
-use mathlib.Core.Bool.{true}
+use mathlib.Core.Bool.{true, _&&_}
 use mathlib.Core.Path.{_≡_, sym, _∙_}
 use borrow.Author.Needs.{needs}
 use borrow.Author.Tests.{not-true, not-false}
-use lib.ListN.{take}
+use lib.Dec.{ltb, eqb}
 use Rattle.wire.specs.TableSource.{made-between}
 use Rattle.wire.specs.Tables.{full-of-128}
-use Rattle.state.specs.WellFormed.{startHeld, tablesRight}
+use Rattle.state.specs.WellFormed.{tablesGiven}
 use Rattle.state.proofs.check.tables_right.Statement.{statement}
 use Rattle.state.proofs.check.tables_right.Tie as tie
 
-held : (c : tie.Else1) → startHeld (take (c .before .before .args .count) (c .before .before .args .fragments)) ≡ true
-held c = sym (c .before .is-start-held .ensures) ∙ not-false _ (c .if1 .left)
+held : (c : tie.Else1) → (ltb 0 (c .before .before .args .count) && eqb (c .before .before .args .first .offset) 0) ≡ true
+held c = sym (c .before .is-start .ensures) ∙ not-false _ (c .if1 .left)
 
-is-start-held-requires : tie.Need-is-start-held-requires
-is-start-held-requires c κs = search needs
+is-start-requires : tie.Need-is-start-requires
+is-start-requires c κs = search needs
 
 is-blank-requires : tie.Need-is-blank-requires
 is-blank-requires c κs = search needs
 
 returns : tie.Need-returns
-unfolding tablesRight
-returns c = rw (sym (c .before .before .is-start-held .ensures) ∙ not-true _ (c .before .if1 .taken)) (c .is-blank .ensures)
+unfolding tablesGiven
+returns c = rw (sym (c .before .before .is-start .ensures) ∙ not-true _ (c .before .if1 .taken)) (c .is-blank .ensures)
 
 table-source-requires : tie.Need-table-source-requires
 table-source-requires c κs = search needs
@@ -60,23 +60,23 @@ are-full-requires-3 : tie.Need-are-full-requires-3
 are-full-requires-3 c κs = search needs
 
 returns-2 : tie.Need-returns-2
-unfolding tablesRight
+unfolding tablesGiven
 returns-2 c = rw (held (c .before .before .before .before), sym (c .before .before .before .table-source .ensures) ∙ c .before .enum-told .given .1) (c .are-made .ensures)
 
 returns-3 : tie.Need-returns-3
-unfolding tablesRight
+unfolding tablesGiven
 returns-3 c =
     let s = c .before .before .before .before in
     rw (held (s .before), sym (s .table-source .ensures) ∙ c .before .before .enum-told2 .given .1) (c .are-full .ensures ∙ full-of-128 (s .before .before .before .args .t4) (search needs))
 
 returns-4 : tie.Need-returns-4
-unfolding tablesRight
+unfolding tablesGiven
 returns-4 c =
     let s = c .before .before .before .before in
     rw (held (s .before), sym (s .table-source .ensures) ∙ c .before .before .enum-told3 .given .1) (c .are-full2 .ensures ∙ full-of-128 (s .before .before .before .args .t4) (search needs))
 
 returns-5 : tie.Need-returns-5
-unfolding tablesRight
+unfolding tablesGiven
 returns-5 c =
     let s = c .before .before .before .before in
     rw (held (s .before), sym (s .table-source .ensures) ∙ c .before .before .enum-told4 .given .1) (c .are-full3 .ensures ∙ full-of-128 (s .before .before .before .args .t4) (search needs))
@@ -85,7 +85,7 @@ pub tables-right-spec : {M : Type 1} → statement M
 tables-right-spec =
     tie.close
     (tie.spec
-    is-start-held-requires
+    is-start-requires
     is-blank-requires
     returns
     table-source-requires
