@@ -1,8 +1,10 @@
 // Runs the cases on standard input, a line each, and writes each case with what it gives.
 // A line that is empty or begins with # is copied, and one that is no case gives a question mark.
 mod hex;
+mod made_up;
 mod packet_case;
 mod sent_case;
+mod state_case;
 mod tables_case;
 mod text;
 mod written;
@@ -42,5 +44,8 @@ fn answer(line: &[u8]) {
 
 // Runs the case on a line; whether it is one.
 fn run_case(line: &[u8]) -> bool {
-    tables_case::run(line) || packet_case::run(line) || sent_case::run(line)
+    tables_case::run(line)
+        || packet_case::run(line)
+        || sent_case::run(line)
+        || state_case::run(line)
 }

@@ -1,8 +1,8 @@
 -- `vectors::hex::fill` keeps to its slice. Assumes nothing.
-use borrow.Author.Needs.{needs}
 use Prim.Native.Nat.{_-_}
-use lib.ListN.{length}
 use mathlib.Core.Path.{_≡_}
+use borrow.Author.Needs.{needs}
+use lib.ListN.{length}
 use Rattle.vectors.proofs.hex.fill.Statement.{statement}
 use Rattle.vectors.proofs.hex.fill.Tie as tie
 

@@ -1,8 +1,8 @@
 -- `vectors::hex::read_hex` meets its contract. Assumes nothing.
-use borrow.Author.Needs.{needs}
 use Prim.Native.Nat.{_-_, _≤_}
-use lib.ListN.{length}
 use mathlib.Core.Path.{_≡_}
+use borrow.Author.Needs.{needs}
+use lib.ListN.{length}
 use Rattle.vectors.proofs.hex.read_hex.Statement.{statement}
 use Rattle.vectors.proofs.hex.read_hex.Tie as tie
 

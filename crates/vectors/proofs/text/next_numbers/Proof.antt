@@ -1,8 +1,8 @@
 -- `vectors::text::next_numbers` meets its contract: the place in the numbers rises to their end. Assumes nothing.
-use borrow.Author.Needs.{needs}
 use Prim.Native.Nat.{_-_}
-use lib.ListN.{length}
 use mathlib.Core.Path.{_≡_}
+use borrow.Author.Needs.{needs}
+use lib.ListN.{length}
 use Rattle.vectors.proofs.text.next_numbers.Statement.{statement}
 use Rattle.vectors.proofs.text.next_numbers.Tie as tie
 

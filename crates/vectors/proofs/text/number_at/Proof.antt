@@ -1,6 +1,6 @@
 -- `vectors::text::number_at` is safe and ends: the number stays below 2 ^ 32. Assumes nothing.
-use borrow.Author.Needs.{needs}
 use Prim.Native.Nat.{_-_, _^_, _<_}
+use borrow.Author.Needs.{needs}
 use lib.ListN.{length}
 use Rattle.vectors.proofs.text.number_at.Statement.{statement}
 use Rattle.vectors.proofs.text.number_at.Tie as tie

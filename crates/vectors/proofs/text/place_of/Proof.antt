@@ -1,6 +1,6 @@
 -- `vectors::text::place_of` meets its contract: the place rises to the end of the line. Assumes nothing.
-use borrow.Author.Needs.{needs}
 use Prim.Native.Nat.{_-_}
+use borrow.Author.Needs.{needs}
 use lib.ListN.{length}
 use Rattle.vectors.proofs.text.place_of.Statement.{statement}
 use Rattle.vectors.proofs.text.place_of.Tie as tie

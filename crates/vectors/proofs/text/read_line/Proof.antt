@@ -1,8 +1,8 @@
 -- `vectors::text::read_line` meets its contract. Assumes nothing.
-use borrow.Author.Needs.{needs}
 use Prim.Native.Nat.{_-_, _≤_}
 use mathlib.Core.Path.{_≡_}
 use native.Mathlib.Omega.{arith}
+use borrow.Author.Needs.{needs}
 use lib.ListN.{length, length-set}
 use Rattle.vectors.proofs.text.read_line.Statement.{statement}
 use Rattle.vectors.proofs.text.read_line.Tie as tie

@@ -1,8 +1,8 @@
 -- `vectors::text::write_bytes` is safe and ends. Assumes nothing.
-use borrow.Author.Needs.{needs}
 use Prim.Native.Nat.{_-_}
 use mathlib.Core.Path.{_≡_}
 use native.Mathlib.Omega.{arith}
+use borrow.Author.Needs.{needs}
 use lib.ListN.{length}
 use Rattle.vectors.proofs.text.write_bytes.Statement.{statement}
 use Rattle.vectors.proofs.text.write_bytes.Tie as tie
