@@ -25,30 +25,42 @@ use Rattle.kept.specs.Kept.{wellKept}
 use Rattle.state.specs.Receiver.{held, unused, headerOf}
 use Rattle.state.specs.declared.Receiver.{Receiver}
 
--- Room 1 to 65,536.
+-- Document 01's paragraph "Well formed means", rule by rule, in the groups in which the check asks for them.
+
+-- "room 1 to 65,536"
 abbrev pub isRoom : ℕ → Bool
 isRoom room = within 1 65536 room
 
--- No picture: nothing is known of one, and no fragment held.
+-- "up to 64 fragments"
+abbrev pub isCount : ℕ → Bool
+isCount count = leb count 64
+
+-- "whatever is unused … 0": with no picture nothing is known of one, and no fragment held. That end, places and tables are 0 then,
+-- and that it is not whole, is in the rules below.
 unfoldable pub isUnset : ℕ → ℕ → Header → Bool
 isUnset time count h = all isZero (time ∷ count ∷ h .kind ∷ h .q ∷ h .width ∷ h .height ∷ h .interval ∷ [])
 
--- A picture's header fields such as the reader can give.
+-- "a picture's header fields such as the reader can give"; the flag is 1 with a picture and 0 without
 unfoldable pub pictureRight : ℕ → ℕ → ℕ → Header → Bool
 pictureRight picture time count h = cond (eqb picture 0) (isUnset time count h) (eqb picture 1 && isLawful h)
 
--- Whole exactly as defined: a flag of 1 or 0.
+-- "a marker …, giving the end", which is 0 while it is not known
+abbrev pub endRight : ℕ → List Fragment → Bool
+endRight end fs = eqb end (Held.endOf fs)
+
+-- "whole exactly as defined": 1 or 0
 abbrev pub flag : Bool → ℕ
 flag b = cond b 1 0
 
-unfoldable pub fragmentsRight : List Fragment → List Fragment → ℕ → ℕ → ℕ → Bool
-fragmentsRight fs spare room end whole =
-    inPlace room fs
-    && all isNothing spare
-    && eqb end (Held.endOf fs)
-    && eqb whole (flag (Held.whole fs))
+abbrev pub wholeRight : ℕ → List Fragment → Bool
+wholeRight whole fs = eqb whole (flag (Held.whole fs))
 
--- Tables 0 until offset 0 is held, then as made for Q 1 to 99, else without a 0.
+-- "fragments of 1 byte or more, rising, apart and inside the room", "a marker on the last fragment at most" (`inPlace`), and
+-- "whatever is unused … 0": the places behind them
+unfoldable pub fragmentsRight : List Fragment → List Fragment → ℕ → ℕ → ℕ → Bool
+fragmentsRight fs spare room end whole = inPlace room fs && all isNothing spare && endRight end fs && wholeRight whole fs
+
+-- "tables 0 until offset 0 is held, then as made for Q 1 to 99, else without a 0"
 abbrev pub startHeld : List Fragment → Bool
 startHeld fs = any (holds 0) fs
 
@@ -61,11 +73,11 @@ tablesGiven started q tables = cond started (areOf q tables) (all isZero tables)
 abbrev pub tablesRight : List Fragment → ℕ → List ℕ → Bool
 tablesRight fs q tables = tablesGiven (startHeld fs) q tables
 
--- Nothing else is tested.
+-- "kept tables without a 0" is the store's own rule (`wellKept`). "Nothing else is tested."
 unfoldable pub wellFormed : Receiver → Bool
 wellFormed r =
     isRoom (r .room)
-    && leb (r .«fragment_count») 64
+    && isCount (r .«fragment_count»)
     && pictureRight (r .picture) (r .time) (r .«fragment_count») (headerOf r)
     && fragmentsRight (held r) (unused r) (r .room) (r .end) (r .whole)
     && tablesRight (held r) (r .q) (r .tables)
