@@ -40,6 +40,14 @@ pub(crate) fn read(line: &[u8], at: usize) -> MadeUp {
     }
 }
 
+// What stands for a state where a line gives none.
+pub(crate) fn none() -> MadeUp {
+    MadeUp {
+        receiver: good(),
+        whole: false,
+    }
+}
+
 enum Change {
     // the first place, how many, their value, and the place of the line behind
     Of(u32, u32, u32, usize),

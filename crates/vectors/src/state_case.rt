@@ -2,6 +2,7 @@
 // CHANGES are of the good state in made_up.rt.
 ghost use Prim.Native.Nat.{_≤_};
 use crate::made_up;
+use crate::made_up::MadeUp;
 use crate::text::Place;
 use crate::text::begins;
 use crate::text::next_numbers;
@@ -75,15 +76,20 @@ fn formed(line: &[u8]) -> bool {
     true
 }
 
-fn placed(line: &[u8]) -> bool {
-    if !begins(line, b"placed") {
-        return false;
+// The numbers behind a word, as many as there is room for, and then a state; none where the line is another case.
+fn given(line: &[u8], word: &[u8], numbers: &mut [u32]) -> MadeUp {
+    if !begins(line, word) {
+        return made_up::none();
     }
-    let mut n = [0u32; 3];
-    let Place::At(behind) = next_numbers(line, 6, &mut n) else {
-        return false;
+    let Place::At(behind) = next_numbers(line, word.len(), numbers) else {
+        return made_up::none();
     };
-    let given = made_up::read(line, behind);
+    made_up::read(line, behind)
+}
+
+fn placed(line: &[u8]) -> bool {
+    let mut n = [0u32; 3];
+    let given = given(line, b"placed", &mut n);
     if !given.whole {
         return false;
     }
@@ -108,14 +114,8 @@ fn write_place(r: Receiver, n: [u32; 3]) -> bool {
 }
 
 fn insert(line: &[u8]) -> bool {
-    if !begins(line, b"insert") {
-        return false;
-    }
     let mut n = [0u32; 6];
-    let Place::At(behind) = next_numbers(line, 6, &mut n) else {
-        return false;
-    };
-    let given = made_up::read(line, behind);
+    let given = given(line, b"insert", &mut n);
     if !given.whole {
         return false;
     }
@@ -156,36 +156,24 @@ fn write_fragment(f: Fragment) {
 }
 
 fn found(line: &[u8]) -> bool {
-    if !begins(line, b"found") {
-        return false;
-    }
     let mut n = [0u32; 1];
-    let Place::At(behind) = next_numbers(line, 5, &mut n) else {
-        return false;
-    };
-    let given = made_up::read(line, behind);
+    let given = given(line, b"found", &mut n);
     if !given.whole {
         return false;
     }
-    let r = given.receiver;
-    let kept = r.kept;
+    let receiver = given.receiver;
+    let kept = receiver.kept;
     write_found(kept, n[0])
 }
 
 fn keep(line: &[u8]) -> bool {
-    if !begins(line, b"keep") {
-        return false;
-    }
     let mut n = [0u32; 3];
-    let Place::At(behind) = next_numbers(line, 4, &mut n) else {
-        return false;
-    };
-    let given = made_up::read(line, behind);
+    let given = given(line, b"keep", &mut n);
     if !given.whole {
         return false;
     }
-    let r = given.receiver;
-    let kept = r.kept;
+    let receiver = given.receiver;
+    let kept = receiver.kept;
     let byte = (n[1] % 256) as u8;
     let after = kept::keep(kept, n[0], [byte; 128]);
     write_found(after, n[2])
