@@ -15,28 +15,28 @@ use Rattle.fragments.specs.Shared.{share, unshared, in-front}
 use Rattle.fragments.specs.Tiles.{markerBefore}
 use Rattle.fragments.specs.declared.Fragment.{Fragment}
 
--- Each is of 1 byte or more.
+-- of 1 byte or more
 abbrev pub hasBytes : Fragment → Bool
 hasBytes f = leb 1 (f .length)
 
--- Each begins behind where those before it begin.
+-- g begins behind where f begins
 abbrev pub rises : Fragment → Fragment → Bool
 rises f g = ltb (f .offset) (g .offset)
 
--- No two share a byte.
+-- they share no byte
 abbrev pub isApart : Fragment → Fragment → Bool
 isApart f g = not (share f g)
 
--- Each ends within so many bytes.
+-- it ends within a room of so many bytes
 abbrev pub endsBy : ℕ → Fragment → Bool
 endsBy room f = leb (stop f) room
 
--- A marker is on the last at most.
+-- a marker, 1 or 0, that is 0 on all but the last
 abbrev pub markedLast : List Fragment → Bool
 markedLast [] = true
 markedLast (f ∷ fs) = leb (f .marker) (markerBefore fs) && markedLast fs
 
--- All of that.
+-- Fragments of 1 byte or more, rising, apart, and inside the room; a marker on the last at most.
 unfoldable pub inPlace : ℕ → List Fragment → Bool
 inPlace room fs = all hasBytes fs && pairwise rises fs && pairwise isApart fs && all (endsBy room) fs && markedLast fs
 

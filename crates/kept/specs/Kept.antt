@@ -18,7 +18,7 @@ use Rattle.kept.specs.declared.Kept.{Kept}
 unfoldable pub blank : List ℕ
 blank = replicate 128 0
 
--- Tables of such a Q are kept; those of 255 are not.
+-- Q 128 to 254. Those of 255 are not kept.
 abbrev pub isKeepable : ℕ → Bool
 isKeepable q = isKeptOrBrought (tableSource q)
 
@@ -26,6 +26,7 @@ isKeepable q = isKeptOrBrought (tableSource q)
 abbrev pub none : Kept
 none = record { q = 0; tables = blank }
 
+-- Whether tables are kept for a Q; which ones, and blank ones where there are none; and the store with these tables for a Q.
 unfoldable pub has : Kept → ℕ → Bool
 has k q = isKeepable q && eqb (k .q) q
 
