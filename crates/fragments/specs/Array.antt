@@ -10,21 +10,20 @@ use lib.ListN.{length, take, drop}
 use lib.Seq.{length-take-le, getD-take, take-append-seam, drop-append-seam}
 use Rattle.laws.specs.All.{all}
 use Rattle.laws.specs.Any.{any}
-use Rattle.laws.specs.Chained.{chained}
 use Rattle.laws.specs.Insert.{insertAt, length-insert-at}
 use Rattle.fragments.specs.Fragments.{stop, fragmentAt, nothing}
 use Rattle.fragments.specs.Held.{total, start-held}
 use Rattle.fragments.specs.Insertion.{place, inFront}
-use Rattle.fragments.specs.Order.{follows, last, InOrder}
+use Rattle.fragments.specs.Order.{areOrdered, last, InOrder}
 use Rattle.fragments.specs.Shared.{holds, share, alike}
 use Rattle.fragments.specs.declared.Fragment.{Fragment}
 use Rattle.fragments.specs.declared.Placed.{Placed}
 use Rattle.fragments.specs.declared.Surveyed.{Surveyed}
 
--- What a pass over fragments tells of them: whether each follows the one before it, where the last ends and its marker, and how many
--- bytes they have.
+-- What a pass over fragments tells of them: whether they are in order, where the last ends and its marker, and how many bytes they
+-- have.
 abbrev pub surveyed : List Fragment → Surveyed
-surveyed fs = record { line = chained follows nothing fs; stop = stop (last fs); marker = last fs .marker; bytes = total fs }
+surveyed fs = record { ordered = areOrdered fs; stop = stop (last fs); marker = last fs .marker; bytes = total fs }
 
 -- The outcome of `survey`.
 abbrev pub Surveys : List Fragment → ℕ → Surveyed → Type 0

@@ -15,7 +15,7 @@ use Rattle.laws.specs.Each.{each-weaken}
 use Rattle.laws.specs.Truth.{split, and-true, and-false, or-true}
 use Rattle.fragments.specs.Fragments.{stop, fragmentAt}
 use Rattle.fragments.specs.Order.{InOrder, in-order-from, EndBy, MarkedLast, last}
-use Rattle.fragments.specs.Shared.{holds, held}
+use Rattle.fragments.specs.Shared.{holds, is-held}
 use Rattle.fragments.specs.declared.Fragment.{Fragment}
 
 abbrev pub total : List Fragment → ℕ
@@ -27,7 +27,7 @@ abbrev pub endOf : List Fragment → ℕ
 endOf [] = 0
 endOf (f ∷ fs) = cond (eqb (f .marker) 1) (stop f) (endOf fs)
 
--- The end is known, and so many bytes add up to it.
+-- The end is known, and the bytes add up to it.
 unfoldable pub reached : ℕ → ℕ → Bool
 reached end bytes = ltb 0 end && eqb bytes end
 
@@ -54,14 +54,14 @@ total-within at e (f ∷ fs) o n a = omega (arith, total-within (stop f) e fs (o
 pub no-gap : (at e i : ℕ) (fs : List Fragment) → InOrder at fs → EndBy e fs → at + total fs ≡ e → at ≤ i → i < e → any (holds i) fs ≡ true
 no-gap at e i [] o n t a b = absurd (omega arith)
 no-gap at e i (f ∷ fs) o n t a b = split (ltb i (stop f))
-    (λ h. rw (held i f (omega (arith, total-within (stop f) e fs (o .2) (n .1) (n .0))) (ltb-true i (stop f) h)))
+    (λ h. rw (is-held i f (omega (arith, total-within (stop f) e fs (o .2) (n .1) (n .0))) (ltb-true i (stop f) h)))
     (λ h. rw (no-gap (stop f) e i fs (o .2) (n .1) (omega (arith, total-within (stop f) e fs (o .2) (n .1) (n .0))) (ltb-false i (stop f) h) b) (or-true (holds i f)))
 
 -- byte 0 is held exactly where the first begins there
 pub start-held : (fs : List Fragment) → 0 < length fs → InOrder 0 fs → any (holds 0) fs ≡ eqb (fragmentAt fs 0 .offset) 0
 start-held [] h o = absurd (omega arith)
 start-held (f ∷ fs) h o = split (eqb (f .offset) 0)
-    (λ e. let z = eqb-true (f .offset) 0 e in rw (held 0 f (omega arith) (omega (arith, o)), e))
+    (λ e. let z = eqb-true (f .offset) 0 e in rw (is-held 0 f (omega arith) (omega (arith, o)), e))
     (λ e. let z = eqb-false (f .offset) 0 e in
     rw (lt-leb (f .offset) 0 (omega (arith, z)), e)
     (none-any (holds 0) fs (each-weaken (λ (g : Fragment). stop f ≤ g .offset) (λ (g : Fragment). holds 0 g ≡ false) (λ g b. rw (lt-leb (g .offset) 0 (omega (arith, o)))) fs (in-order-from (stop f) fs (o .2)))))

@@ -6,7 +6,7 @@ use mathlib.Core.Path.{_≡_, refl, sym, ap, _∙_}
 use native.Mathlib.Numerals.{add-one}
 use native.Mathlib.Omega.{arith}
 use borrow.Author.Tests.{ltb-true, ltb-false, lt-ltb, le-ltb}
-use lib.Dec.{ltb}
+use lib.Dec.{ltb, eqb}
 use lib.ListN.{length, take, drop}
 use Rattle.laws.specs.Any.{any, none-any}
 use Rattle.laws.specs.Chained.{lastOf}
@@ -14,7 +14,7 @@ use Rattle.laws.specs.Each.{Each, each-weaken}
 use Rattle.laws.specs.Insert.{insertAt, length-insert-at, any-insert-at, each-insert-at}
 use Rattle.laws.specs.Truth.{split, never-both, or-false}
 use Rattle.fragments.specs.Fragments.{stop, fragmentAt, nothing}
-use Rattle.fragments.specs.Held.{total}
+use Rattle.fragments.specs.Held.{total, endOf}
 use Rattle.fragments.specs.Order.{InOrder, in-order-from, last}
 use Rattle.fragments.specs.Shared.{share, alike, unshared, unshared-behind, byte-shared, held-at, in-front, shared, share-swap, alike-same, alike-shares}
 use Rattle.fragments.specs.declared.Fragment.{Fragment}
@@ -71,15 +71,28 @@ module _ (f : Fragment) where
   total-insert [] = refl
   total-insert (g ∷ gs) = split (ltb (g .offset) (stop f)) (λ e. rw e (omega (arith, total-insert gs))) (λ e. rw e)
 
+  -- the end stays as it is without the marker, and where none was known it is the end of the one with the marker
+  pub end-unmarked : (fs : List Fragment) → eqb (f .marker) 1 ≡ false → endOf (insert f fs) ≡ endOf fs
+  end-unmarked [] m = rw m
+  end-unmarked (g ∷ gs) m = split (ltb (g .offset) (stop f)) (λ e. rw (e, end-unmarked gs m)) (λ e. rw (e, m))
+
+  pub end-marked : (at : ℕ) (fs : List Fragment) → eqb (f .marker) 1 ≡ true → InOrder at fs → endOf fs ≡ 0 → endOf (insert f fs) ≡ stop f
+  end-marked at [] m o z = rw m
+  end-marked at (g ∷ gs) m o z = split (ltb (g .offset) (stop f))
+      (λ e. rw e (split (eqb (g .marker) 1)
+      (λ n. absurd (omega (arith, rw n at z, o)))
+      (λ n. rw n (end-marked (stop g) gs m (o .2) (rw n at z)))))
+      (λ e. rw (e, m))
+
   -- those that share no byte with it stay in order
   pub in-order-insert : (at : ℕ) (fs : List Fragment) → InOrder at fs → at ≤ f .offset → 1 ≤ f .length → Each (λ (g : Fragment). share f g ≡ false) fs → InOrder at (insert f fs)
   in-order-insert at [] o a n s = (a, n, tt)
   in-order-insert at (g ∷ gs) o a n s = split (ltb (g .offset) (stop f))
-      (λ e. rw e (o .0, o .1, in-order-insert (stop g) gs (o .2) (before g (s .0) (o .1) (ltb-true (g .offset) (stop f) e)) n (s .1)))
+      (λ e. rw e (o .0, o .1, in-order-insert (stop g) gs (o .2) (ends g (s .0) (o .1) (ltb-true (g .offset) (stop f) e)) n (s .1)))
       (λ e. rw e (a, n, (ltb-false (g .offset) (stop f) e, o .1, o .2)))
     where
-      before : (g : Fragment) → share f g ≡ false → 1 ≤ g .length → g .offset < stop f → stop g ≤ f .offset
-      before g s m b = in-front g f (share-swap f g ∙ s) m n b
+      ends : (g : Fragment) → share f g ≡ false → 1 ≤ g .length → g .offset < stop f → stop g ≤ f .offset
+      ends g s m b = in-front g f (share-swap f g ∙ s) m n b
 
   -- Of those held in order, the one in front of its place tells for all: what is further in front ends before that one begins, and
   -- what is behind begins where it ends or later. So for a test that only those pass that share a byte with it, and that goes on

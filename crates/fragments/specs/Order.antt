@@ -2,7 +2,7 @@
 use Prim.Native.Nat.{ℕ, _≤_}
 use mathlib.Core.Bool.{Bool, true, not, _&&_}
 use mathlib.Core.List.{List, [], _∷_}
-use mathlib.Core.Path.{_≡_, refl}
+use mathlib.Core.Path.{_≡_, refl, sym, _∙_}
 use native.Mathlib.Omega.{arith}
 use borrow.Author.Tests.{ltb-true, lt-ltb, leb-true, le-leb, eqb-true, eq-eqb, not-true}
 use lib.Dec.{ltb, leb, eqb}
@@ -27,7 +27,7 @@ rises f g = ltb (f .offset) (g .offset)
 abbrev pub isApart : Fragment → Fragment → Bool
 isApart f g = not (share f g)
 
--- it ends within a room of so many bytes
+-- it ends inside the room
 abbrev pub endsBy : ℕ → Fragment → Bool
 endsBy room f = leb (stop f) room
 
@@ -101,6 +101,10 @@ is-marked-last : (fs : List Fragment) → MarkedLast fs → markedLast fs ≡ tr
 is-marked-last [] m = refl
 is-marked-last (f ∷ fs) m = rw (le-leb (f .marker) (markerBefore fs) (m .0)) (is-marked-last fs (m .1))
 
+from-0 : (gs : List Fragment) → Each (λ (g : Fragment). 0 ≤ g .offset) gs
+from-0 [] = tt
+from-0 (g ∷ gs) = (omega arith, from-0 gs)
+
 module _ (room : ℕ) (fs : List Fragment) where
   pub in-place : inPlace room fs ≡ true → InPlace room fs
   unfolding inPlace
@@ -114,10 +118,6 @@ module _ (room : ℕ) (fs : List Fragment) where
         inside = each-weaken (λ (f : Fragment). endsBy room f ≡ true) (λ (f : Fragment). stop f ≤ room) (λ f t. leb-true (stop f) room t) fs (all-each (endsBy room) fs (b .1));
         marked = marked-last fs (a .1);
       }
-    where
-      from-0 : (gs : List Fragment) → Each (λ (g : Fragment). 0 ≤ g .offset) gs
-      from-0 [] = tt
-      from-0 (g ∷ gs) = (omega arith, from-0 gs)
 
   pub is-in-place : InPlace room fs → inPlace room fs ≡ true
   unfolding inPlace
@@ -126,15 +126,63 @@ module _ (room : ℕ) (fs : List Fragment) where
       rw (t .0, t .1, t .2, each-all (endsBy room) fs (each-weaken (λ (f : Fragment). stop f ≤ room) (λ (f : Fragment). endsBy room f ≡ true) (λ f b. le-leb (stop f) room b) fs (p .inside)))
       (is-marked-last fs (p .marked))
 
--- The same by going through them once: each after the one before it, and what is to be said of the last.
+-- In order, whatever the room is: of 1 byte or more, rising, apart, and no marker but on the last.
+abbrev pub frontUnmarked : List Fragment → Bool
+frontUnmarked [] = true
+frontUnmarked (f ∷ []) = true
+frontUnmarked (f ∷ g ∷ gs) = eqb (f .marker) 0 && frontUnmarked (g ∷ gs)
+
+unfoldable pub areOrdered : List Fragment → Bool
+areOrdered fs = all hasBytes fs && pairwise rises fs && pairwise isApart fs && frontUnmarked fs
+
+-- The same by going through them once: each after the one before it.
 unfoldable pub follows : Fragment → Fragment → Bool
 follows g f = leb (stop g) (f .offset) && leb 1 (f .length) && eqb (g .marker) 0
 
 abbrev pub last : List Fragment → Fragment
 last fs = lastOf nothing fs
 
+chained-tests : (g : Fragment) (fs : List Fragment) → chained follows g fs ≡ true → InOrder (stop g) fs × (frontUnmarked (g ∷ fs) ≡ true)
+unfolding follows
+chained-tests g [] e = (tt, refl)
+chained-tests g (f ∷ fs) e =
+    let a = and-true (follows g f) (chained follows f fs) e in
+    let b = and-true (leb (stop g) (f .offset) && leb 1 (f .length)) (eqb (g .marker) 0) (a .0) in
+    let c = and-true (leb (stop g) (f .offset)) (leb 1 (f .length)) (b .0) in
+    let t = chained-tests f fs (a .1) in
+    ((leb-true (stop g) (f .offset) (c .0), leb-true 1 (f .length) (c .1), t .0), rw (b .1) (t .1))
+
+tests-chained : (g : Fragment) (fs : List Fragment) → InOrder (stop g) fs → frontUnmarked (g ∷ fs) ≡ true → chained follows g fs ≡ true
+unfolding follows
+tests-chained g [] o m = refl
+tests-chained g (f ∷ fs) o m =
+    let t = and-true (eqb (g .marker) 0) (frontUnmarked (f ∷ fs)) m in
+    rw (le-leb (stop g) (f .offset) (o .0), le-leb 1 (f .length) (o .1), t .0) (tests-chained f fs (o .2) (t .1))
+
+front-of-nothing : (fs : List Fragment) → frontUnmarked (nothing ∷ fs) ≡ frontUnmarked fs
+front-of-nothing [] = refl
+front-of-nothing (f ∷ fs) = refl
+
+pub ordered-chain : (fs : List Fragment) → chained follows nothing fs ≡ areOrdered fs
+unfolding areOrdered
+ordered-chain fs = same-test (chained follows nothing fs) (areOrdered fs) there back
+  where
+    there : chained follows nothing fs ≡ true → areOrdered fs ≡ true
+    there e =
+        let t = chained-tests nothing fs e in
+        let o = in-order-tests 0 fs (t .0) in
+        rw (o .0, o .1, o .2) (sym (front-of-nothing fs) ∙ t .1)
+
+    back : areOrdered fs ≡ true → chained follows nothing fs ≡ true
+    back e =
+        let a = and-true (all hasBytes fs && pairwise rises fs && pairwise isApart fs) (frontUnmarked fs) e in
+        let b = and-true (all hasBytes fs && pairwise rises fs) (pairwise isApart fs) (a .0) in
+        let c = and-true (all hasBytes fs) (pairwise rises fs) (b .0) in
+        tests-chained nothing fs (tests-in-order 0 fs (from-0 fs) (c .0) (c .1) (b .1)) (front-of-nothing fs ∙ a .1)
+
+-- So those in order are in place exactly where the last ends inside the room and has a marker of 0 or 1.
 unfoldable pub inLine : ℕ → List Fragment → Bool
-inLine room fs = chained follows nothing fs && leb (stop (last fs)) room && leb (last fs .marker) 1
+inLine room fs = areOrdered fs && leb (stop (last fs)) room && leb (last fs .marker) 1
 
 record Line (room : ℕ) (g : Fragment) (fs : List Fragment) : Type 0 where
   order : InOrder (stop g) fs
@@ -170,13 +218,13 @@ module _ (room : ℕ) where
     where
       there : inLine room fs ≡ true → inPlace room fs ≡ true
       there e =
-          let a = and-true (chained follows nothing fs && leb (stop (last fs)) room) (leb (last fs .marker) 1) e in
-          let b = and-true (chained follows nothing fs) (leb (stop (last fs)) room) (a .0) in
-          let l = line nothing fs (b .0) (leb-true (stop (last fs)) room (b .1)) (leb-true (last fs .marker) 1 (a .1)) in
+          let a = and-true (areOrdered fs && leb (stop (last fs)) room) (leb (last fs .marker) 1) e in
+          let b = and-true (areOrdered fs) (leb (stop (last fs)) room) (a .0) in
+          let l = line nothing fs (ordered-chain fs ∙ b .0) (leb-true (stop (last fs)) room (b .1)) (leb-true (last fs .marker) 1 (a .1)) in
           is-in-place room fs (record { order = l .order; inside = l .inside .1; marked = l .marked .1 })
 
       back : inPlace room fs ≡ true → inLine room fs ≡ true
       back e =
           let p = in-place room fs e in
           let t = line-tests nothing fs (record { order = p .order; inside = (omega arith, p .inside); marked = (omega arith, p .marked) }) in
-          rw (t .0, le-leb (stop (last fs)) room (t .1), le-leb (last fs .marker) 1 (t .2))
+          rw (sym (ordered-chain fs) ∙ t .0, le-leb (stop (last fs)) room (t .1), le-leb (last fs .marker) 1 (t .2))

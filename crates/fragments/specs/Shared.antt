@@ -23,8 +23,8 @@ alike f g = eqb (f .offset) (g .offset) && eqb (f .length) (g .length) && eqb (f
 
 -- ---- laws
 
-pub held : (i : ℕ) (f : Fragment) → f .offset ≤ i → i < stop f → holds i f ≡ true
-held i f a b = rw (le-leb (f .offset) i a, lt-ltb i (stop f) b)
+pub is-held : (i : ℕ) (f : Fragment) → f .offset ≤ i → i < stop f → holds i f ≡ true
+is-held i f a b = rw (le-leb (f .offset) i a, lt-ltb i (stop f) b)
 
 pub held-at : (i : ℕ) (f : Fragment) → holds i f ≡ true → (f .offset ≤ i) × (i < stop f)
 held-at i f h = let t = and-true (leb (f .offset) i) (ltb i (stop f)) h in (leb-true (f .offset) i (t .0), ltb-true i (stop f) (t .1))
@@ -40,7 +40,7 @@ module _ (f g : Fragment) where
   byte-shared h =
       let i = max (f .offset) (g .offset) in
       let b = ltb-true i (min (stop f) (stop g)) h in
-      (held i f (omega arith) (omega arith), held i g (omega arith) (omega arith))
+      (is-held i f (omega arith) (omega arith), is-held i g (omega arith) (omega arith))
 
   pub shared : f .offset < stop g → g .offset < stop f → 1 ≤ f .length → 1 ≤ g .length → share f g ≡ true
   unfolding share

@@ -10,8 +10,8 @@ use pair::alike;
 use pair::follows;
 use pair::share;
 
-// The part of a scan that a packet carries: the bytes from an offset on, so many of them; and the marker, 1 on the last of its
-// picture and 0 on any other.
+// The part of a scan that a packet carries: `length` bytes from `offset` on; and the marker, 1 on the last of its picture and 0 on any
+// other.
 #[repr(C)]
 pub struct Fragment {
     pub offset: u32,
@@ -19,16 +19,16 @@ pub struct Fragment {
     pub marker: u32,
 }
 
-// Of fragments in a row: whether each follows the one before it, where the last ends and its marker, and how many bytes they have.
+// Of the fragments held: whether they are in order, where the last ends and its marker, and how many bytes they have.
 pub struct Surveyed {
-    pub line: bool,
+    pub ordered: bool,
     pub stop: u64,
     pub marker: u32,
     pub bytes: u64,
 }
 
-// Where a fragment goes: behind so many of those held; and whether it shares a byte with the one in front of that place, or is the
-// same.
+// Where a fragment goes: behind the first `at` of those held; and whether it shares a byte with the one in front of that place, or is
+// the same. At place 0 there is none in front, and a fragment of zeros stands for it.
 pub struct Placed {
     pub at: usize,
     pub shares: bool,
@@ -53,7 +53,7 @@ pub fn survey(fragments: [Fragment; 64], count: u32) -> Surveyed
         last = f;
     }
     Surveyed {
-        line: wrong == 0,
+        ordered: wrong == 0,
         stop: stop(last),
         marker: last.marker,
         bytes,

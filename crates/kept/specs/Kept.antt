@@ -1,12 +1,12 @@
 -- The store: the last tables received for one Q of 128 to 254. Assumes nothing.
 use Prim.Native.Nat.{ℕ}
 use mathlib.Core.Bool.{Bool, true, false, cond, not, _&&_}
-use mathlib.Core.List.{List}
-use mathlib.Core.Path.{_≡_, refl}
+use mathlib.Core.List.{List, [], _∷_}
+use mathlib.Core.Path.{_≡_, refl, _∙_}
 use native.Mathlib.Omega.{arith}
 use borrow.Author.Tests.{eqb-true, eq-eqb, ne-eqb, not-true}
 use lib.Dec.{eqb}
-use lib.ListN.{replicate}
+use lib.ListN.{length, replicate}
 use Rattle.laws.specs.All.{all}
 use Rattle.laws.specs.Any.{any}
 use Rattle.laws.specs.Truth.{split, and-true}
@@ -18,7 +18,7 @@ use Rattle.kept.specs.declared.Kept.{Kept}
 unfoldable pub blank : List ℕ
 blank = replicate 128 0
 
--- Q 128 to 254. Those of 255 are not kept.
+-- Tables of Q 128 to 254 are kept; those of 255 are not.
 abbrev pub isKeepable : ℕ → Bool
 isKeepable q = isKeptOrBrought (tableSource q)
 
@@ -61,7 +61,16 @@ TellsBlank tables b = b ≡ all isZero tables
 
 -- ---- laws
 
--- an empty store is one
+-- 128 zeros are blank tables
+pub is-blank : (tables : List ℕ) → length tables ≡ 128 → all isZero tables ≡ true → tables ≡ blank
+unfolding blank
+is-blank tables long z = zeros tables z ∙ rw long
+  where
+    zeros : (l : List ℕ) → all isZero l ≡ true → l ≡ replicate (length l) 0
+    zeros [] e = refl
+    zeros (x ∷ l) e = let t = and-true (isZero x) (all isZero l) e in cc (eqb-true x 0 (t .0), zeros l (t .1))
+
+-- an empty store is well kept
 pub none-well : wellKept none ≡ true
 unfolding wellKept blank
 none-well = refl
@@ -87,14 +96,14 @@ module _ (k : Kept) (q : ℕ) (tables : List ℕ) where
   unfolding keep
   keeps-none e = rw e
 
-  -- tables without a 0 leave a store that is one
+  -- with tables without a 0 a store stays well kept
   pub keep-well : wellKept k ≡ true → any isZero tables ≡ false → wellKept (keep k q tables) ≡ true
   unfolding keep wellKept
   keep-well w full = split (isKeepable q)
       (λ e. rw (e, ne-eqb q 0 (λ z. omega (arith, kept-or-brought-between q e)), e, full))
       (λ e. rw e w)
 
--- what is found in a store that is one has no 0
+-- what is found in a store that is well kept has no 0
 pub find-full : (k : Kept) (q : ℕ) → wellKept k ≡ true → has k q ≡ true → any isZero (find k q) ≡ false
 unfolding find has wellKept
 find-full k q w h =

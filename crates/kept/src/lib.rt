@@ -1,4 +1,4 @@
-// The store: the last tables received for one Q of 128 to 254. Nothing else names its fields.
+// The store: the last tables received for one Q of 128 to 254. No other library names its fields.
 ghost use mathlib.Core.Path.{_≡_};
 ghost use Rattle.kept.specs.Kept as Store;
 use wire::TableSource;
@@ -58,7 +58,7 @@ fn is_keepable(q: u32) -> bool
     }
 }
 
-// Whether the store is one that `keep` can have left.
+// Whether nothing is kept, all of it 0, or tables of a Q of 128 to 254 without a 0.
 pub fn well_kept(kept: Kept) -> bool
     ensures { λ r. ⌜ Store.TellsWell kept r ⌝ }
 {

@@ -1,1 +1,2 @@
+mod Grouped
 mod Zeros

@@ -36,10 +36,13 @@ unfolding pictureRight isUnset tablesGiven noFragments blank alike reached
 fresh-well-formed source room b = is-well-formed (fresh source room) (record {
   room = b;
   count = omega arith;
+  in-place = record { order = tt; inside = tt; marked = tt };
+  unused = refl;
   picture = refl;
-  fragments = record { in-place = record { order = tt; inside = tt; marked = tt }; unused = refl; end = refl; whole = refl };
+  end = refl;
   tables = refl;
   kept = none-well;
+  whole = refl;
 })
 
 pub no-room : (r : Receiver) → r .room ≡ 0 → wellFormed r ≡ false

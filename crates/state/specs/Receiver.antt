@@ -9,8 +9,8 @@ use Rattle.kept.specs.Kept.{blank, none}
 use Rattle.state.specs.declared.Receiver.{Receiver}
 
 -- the fragments held, and the places that are not used
-abbrev pub held : Receiver → List Fragment
-held r = take (r .«fragment_count») (r .fragments)
+abbrev pub heldFragments : Receiver → List Fragment
+heldFragments r = take (r .«fragment_count») (r .fragments)
 
 abbrev pub unused : Receiver → List Fragment
 unused r = drop (r .«fragment_count») (r .fragments)

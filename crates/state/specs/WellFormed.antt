@@ -1,8 +1,8 @@
 -- The rules of a well-formed receiver, as document 01 has them under "Well formed means". Assumes nothing.
 use Prim.Native.Nat.{ℕ, _≤_}
-use mathlib.Core.Bool.{Bool, true, cond, not, _&&_}
+use mathlib.Core.Bool.{Bool, true, false, cond, not, _&&_}
 use mathlib.Core.List.{List, [], _∷_}
-use mathlib.Core.Path.{_≡_}
+use mathlib.Core.Path.{_≡_, refl}
 use native.Mathlib.Omega.{arith}
 use borrow.Author.Tests.{leb-true, le-leb, eqb-true, eq-eqb}
 use lib.Dec.{eqb, leb}
@@ -22,10 +22,8 @@ use Rattle.wire.specs.Tables.{isZero}
 use Rattle.wire.specs.TableSource.{tableSource, isMade}
 use Rattle.wire.specs.declared.Header.{Header}
 use Rattle.kept.specs.Kept.{wellKept}
-use Rattle.state.specs.Receiver.{held, unused, headerOf}
+use Rattle.state.specs.Receiver.{heldFragments, unused, headerOf}
 use Rattle.state.specs.declared.Receiver.{Receiver}
-
--- Document 01's paragraph "Well formed means", rule by rule, in the groups in which the check asks for them.
 
 -- "room 1 to 65,536"
 abbrev pub isRoom : ℕ → Bool
@@ -55,11 +53,6 @@ flag b = cond b 1 0
 abbrev pub wholeRight : ℕ → List Fragment → Bool
 wholeRight whole fs = eqb whole (flag (Held.whole fs))
 
--- "fragments of 1 byte or more, rising, apart and inside the room", "a marker on the last fragment at most" (`inPlace`), and
--- "whatever is unused … 0": the places behind them
-unfoldable pub fragmentsRight : List Fragment → List Fragment → ℕ → ℕ → ℕ → Bool
-fragmentsRight fs spare room end whole = inPlace room fs && all isNothing spare && endRight end fs && wholeRight whole fs
-
 -- "tables 0 until offset 0 is held, then as made for Q 1 to 99, else without a 0"
 abbrev pub startHeld : List Fragment → Bool
 startHeld fs = any (holds 0) fs
@@ -73,80 +66,104 @@ tablesGiven started q tables = cond started (areOf q tables) (all isZero tables)
 abbrev pub tablesRight : List Fragment → ℕ → List ℕ → Bool
 tablesRight fs q tables = tablesGiven (startHeld fs) q tables
 
--- "kept tables without a 0" is the store's own rule (`wellKept`). "Nothing else is tested."
+-- All of it: besides these, `inPlace` has "fragments of 1 byte or more, rising, apart and inside the room" and "a marker on the last
+-- fragment at most", `isNothing` "whatever is unused … 0" of the places behind them, and `wellKept` the store's own rule. "Nothing
+-- else is tested."
 unfoldable pub wellFormed : Receiver → Bool
 wellFormed r =
     isRoom (r .room)
     && isCount (r .«fragment_count»)
+    && inPlace (r .room) (heldFragments r)
+    && all isNothing (unused r)
     && pictureRight (r .picture) (r .time) (r .«fragment_count») (headerOf r)
-    && fragmentsRight (held r) (unused r) (r .room) (r .end) (r .whole)
-    && tablesRight (held r) (r .q) (r .tables)
+    && endRight (r .end) (heldFragments r)
+    && tablesRight (heldFragments r) (r .q) (r .tables)
     && wellKept (r .kept)
+    && wholeRight (r .whole) (heldFragments r)
 
 -- The outcome of `well_formed`.
 abbrev pub TellsWellFormed : Receiver → Bool → Type 0
 TellsWellFormed r b = b ≡ wellFormed r
 
+-- The rules of the fragments, in the group in which the check asks for them.
+unfoldable pub fragmentsRight : List Fragment → List Fragment → ℕ → ℕ → ℕ → Bool
+fragmentsRight fs spare room end whole = inPlace room fs && all isNothing spare && endRight end fs && wholeRight whole fs
+
 -- ---- laws
 
--- what is known of the fragments of a receiver whose fragments are right
-pub record FragmentsRight (fs spare : List Fragment) (room e w : ℕ) : Type 0 where
-  pub in-place : InPlace room fs
-  pub unused : all isNothing spare ≡ true
-  pub end : e ≡ Held.endOf fs
-  pub whole : w ≡ flag (Held.whole fs)
-
-module _ (fs spare : List Fragment) (room e w : ℕ) where
-  pub fragments-right : fragmentsRight fs spare room e w ≡ true → FragmentsRight fs spare room e w
-  unfolding fragmentsRight
-  fragments-right h =
-      let a = and-true (inPlace room fs && all isNothing spare && eqb e (Held.endOf fs)) (eqb w (flag (Held.whole fs))) h in
-      let b = and-true (inPlace room fs && all isNothing spare) (eqb e (Held.endOf fs)) (a .0) in
-      let c = and-true (inPlace room fs) (all isNothing spare) (b .0) in
-      record { in-place = in-place room fs (c .0); unused = c .1; end = eqb-true e (Held.endOf fs) (b .1); whole = eqb-true w (flag (Held.whole fs)) (a .1) }
-
-  pub are-right : FragmentsRight fs spare room e w → fragmentsRight fs spare room e w ≡ true
-  unfolding fragmentsRight
-  are-right f = rw (is-in-place room fs (f .in-place), f .unused, eq-eqb e (Held.endOf fs) (f .end)) (eq-eqb w (flag (Held.whole fs)) (f .whole))
-
--- and of a well-formed receiver
+-- what is known of a well-formed receiver
 pub record WellFormed (r : Receiver) : Type 0 where
   pub room : Between 1 65536 (r .room)
   pub count : r .«fragment_count» ≤ 64
+  pub in-place : InPlace (r .room) (heldFragments r)
+  pub unused : all isNothing (unused r) ≡ true
   pub picture : pictureRight (r .picture) (r .time) (r .«fragment_count») (headerOf r) ≡ true
-  pub fragments : FragmentsRight (held r) (unused r) (r .room) (r .end) (r .whole)
-  pub tables : tablesRight (held r) (r .q) (r .tables) ≡ true
+  pub end : r .end ≡ Held.endOf (heldFragments r)
+  pub tables : tablesRight (heldFragments r) (r .q) (r .tables) ≡ true
   pub kept : wellKept (r .kept) ≡ true
+  pub whole : r .whole ≡ flag (Held.whole (heldFragments r))
 
 module _ (r : Receiver) where
   pub well-formed : wellFormed r ≡ true → WellFormed r
   unfolding wellFormed
   well-formed e =
+      let fs = heldFragments r in
+      let room = isRoom (r .room) in
+      let count = isCount (r .«fragment_count») in
+      let placed = inPlace (r .room) fs in
+      let clear = all isNothing (unused r) in
       let picture = pictureRight (r .picture) (r .time) (r .«fragment_count») (headerOf r) in
-      let fragments = fragmentsRight (held r) (unused r) (r .room) (r .end) (r .whole) in
-      let tables = tablesRight (held r) (r .q) (r .tables) in
-      let a = and-true (isRoom (r .room) && leb (r .«fragment_count») 64 && picture && fragments && tables) (wellKept (r .kept)) e in
-      let b = and-true (isRoom (r .room) && leb (r .«fragment_count») 64 && picture && fragments) tables (a .0) in
-      let c = and-true (isRoom (r .room) && leb (r .«fragment_count») 64 && picture) fragments (b .0) in
-      let d = and-true (isRoom (r .room) && leb (r .«fragment_count») 64) picture (c .0) in
-      let n = and-true (isRoom (r .room)) (leb (r .«fragment_count») 64) (d .0) in
+      let end = endRight (r .end) fs in
+      let tables = tablesRight fs (r .q) (r .tables) in
+      let a = and-true (room && count && placed && clear && picture && end && tables && wellKept (r .kept)) (wholeRight (r .whole) fs) e in
+      let b = and-true (room && count && placed && clear && picture && end && tables) (wellKept (r .kept)) (a .0) in
+      let c = and-true (room && count && placed && clear && picture && end) tables (b .0) in
+      let d = and-true (room && count && placed && clear && picture) end (c .0) in
+      let f = and-true (room && count && placed && clear) picture (d .0) in
+      let g = and-true (room && count && placed) clear (f .0) in
+      let h = and-true (room && count) placed (g .0) in
+      let n = and-true room count (h .0) in
       record {
         room = between 1 65536 (r .room) (n .0);
         count = leb-true (r .«fragment_count») 64 (n .1);
-        picture = d .1;
-        fragments = fragments-right (held r) (unused r) (r .room) (r .end) (r .whole) (c .1);
-        tables = b .1;
-        kept = a .1;
+        in-place = in-place (r .room) fs (h .1);
+        unused = g .1;
+        picture = f .1;
+        end = eqb-true (r .end) (Held.endOf fs) (d .1);
+        tables = c .1;
+        kept = b .1;
+        whole = eqb-true (r .whole) (flag (Held.whole fs)) (a .1);
       }
 
   pub is-well-formed : WellFormed r → wellFormed r ≡ true
   unfolding wellFormed
   is-well-formed w =
-      rw (is-within 1 65536 (r .room) (w .room .0) (w .room .1), le-leb (r .«fragment_count») 64 (w .count), w .picture, are-right (held r) (unused r) (r .room) (r .end) (r .whole) (w .fragments), w .tables)
-      (w .kept)
+      let fs = heldFragments r in
+      rw (is-within 1 65536 (r .room) (w .room .0) (w .room .1), le-leb (r .«fragment_count») 64 (w .count), is-in-place (r .room) fs (w .in-place), w .unused, w .picture, eq-eqb (r .end) (Held.endOf fs) (w .end), w .tables, w .kept)
+      (eq-eqb (r .whole) (flag (Held.whole fs)) (w .whole))
 
 -- it holds no more bytes than its room has
-pub held-within-room : {r : Receiver} → WellFormed r → Held.total (held r) ≤ r .room
+pub held-within-room : {r : Receiver} → WellFormed r → Held.total (heldFragments r) ≤ r .room
 held-within-room {r} w =
-    let p = w .fragments .in-place in
-    omega (arith, Held.total-within 0 (r .room) (held r) (p .order) (p .inside) (omega arith))
+    let p = w .in-place in
+    omega (arith, Held.total-within 0 (r .room) (heldFragments r) (p .order) (p .inside) (omega arith))
+
+-- what there is without a picture, and with one
+module _ (time count : ℕ) (h : Header) where
+  pub none-held : pictureRight 0 time count h ≡ true → count ≡ 0
+  unfolding pictureRight isUnset
+  none-held e = eqb-true count 0 (and-true (isZero count) _ (and-true (isZero time) _ e .1) .0)
+
+  pub one-held : pictureRight 1 time count h ≡ isLawful h
+  unfolding pictureRight
+  one-held = refl
+
+-- the tables before byte 0 is held, and behind it
+module _ (q : ℕ) (tables : List ℕ) where
+  pub not-started : tablesGiven false q tables ≡ all isZero tables
+  unfolding tablesGiven
+  not-started = refl
+
+  pub started : tablesGiven true q tables ≡ areOf q tables
+  unfolding tablesGiven
+  started = refl

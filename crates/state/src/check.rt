@@ -24,7 +24,7 @@ pub(crate) fn picture_right(picture: u32, time: u32, count: u32, header: Header)
     }
 }
 
-// Whether all of these are 0.
+// Whether all of these are 0: then their sum is.
 fn is_unset(time: u32, count: u32, header: Header) -> bool
     ensures { λ r. ⌜ r ≡ Rule.isUnset time count header ⌝ }
 {
@@ -58,9 +58,9 @@ pub(crate) fn fragments_right(
 }
 
 fn are_in_place(survey: Surveyed, room: u32) -> bool
-    ensures { λ r. ⌜ r ≡ (survey .line && leb (survey .stop) room && leb (survey .marker) 1) ⌝ }
+    ensures { λ r. ⌜ r ≡ (survey .ordered && leb (survey .stop) room && leb (survey .marker) 1) ⌝ }
 {
-    if !survey.line {
+    if !survey.ordered {
         return false;
     }
     if (room as u64) < survey.stop {
@@ -76,7 +76,7 @@ fn end_given(survey: Surveyed) -> u64
     if survey.marker == 1 { survey.stop } else { 0 }
 }
 
-// 1 where the end is known and so many bytes reach it.
+// 1 where the end is known and the bytes held add up to it.
 fn whole_flag(end: u32, bytes: u64) -> u32
     ensures { λ r. ⌜ r ≡ Rule.flag (reached end bytes) ⌝ }
 {
@@ -86,7 +86,8 @@ fn whole_flag(end: u32, bytes: u64) -> u32
     if bytes == end as u64 { 1 } else { 0 }
 }
 
-// Whether the picture's tables are as its Q and what is held of it ask, by the first of `count` fragments.
+// Whether the tables are what the Q and the fragments held call for, of which `first` is the first of `count`. A reserved Q was
+// refused with the header fields, and is like one whose tables are brought.
 pub(crate) fn tables_right(first: Fragment, count: u32, q: u32, tables: [u8; 128]) -> bool
     ensures { λ r. ⌜ r ≡ Rule.tablesGiven (ltb 0 count && eqb (first .offset) 0) q tables ⌝ }
 {

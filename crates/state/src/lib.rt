@@ -45,7 +45,7 @@ pub struct Opened {
     pub receiver: Receiver,
 }
 
-// A receiver of a source, with a room of so many bytes for its scan.
+// A receiver of a source, with `room` bytes for its scan.
 pub fn open(source: u32, room: u32) -> Opened
     ensures { λ r. ⌜ Opens source room r ⌝ }
 {
@@ -104,7 +104,7 @@ fn fresh(source: u32, room: u32) -> Receiver
     }
 }
 
-// Whether a receiver is one that the calls can have left: reply 9 is for any other.
+// Whether a receiver keeps every rule of document 01's "Well formed means", and nothing else. Reply 9 is for one that does not.
 pub fn well_formed(receiver: Receiver) -> bool
     ensures { λ r. ⌜ TellsWellFormed receiver r ⌝ }
 {

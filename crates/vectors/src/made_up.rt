@@ -1,5 +1,6 @@
 // Receivers that no call needs to have left: one good state, and changes of it by place. The places are the numbers of the struct in
-// their order: 12 numbers; offset, length and marker of 64 fragments; 128 table bytes; the kept Q; 128 kept table bytes.
+// their order: 12 numbers; offset, length and marker of 64 fragments; 128 table bytes; the kept Q; 128 kept table bytes. A field that
+// is added to the struct takes a place from 461 on, so that the lines stay as they are.
 ghost use Prim.Native.Nat.{_+_, _≤_};
 use crate::text::Number;
 use crate::text::next_number;
@@ -10,14 +11,14 @@ use state::Receiver;
 
 pub(crate) struct MadeUp {
     pub(crate) receiver: Receiver,
-    pub(crate) whole: bool,
+    pub(crate) complete: bool,
 }
 
-// The good state with the changes that stand behind a place of the line; not whole where the line is wrong.
+// The good state with the changes that stand behind a place of the line; not complete where the line is wrong.
 pub(crate) fn read(line: &[u8], at: usize) -> MadeUp {
     let mut receiver = good();
     let mut next = at;
-    // a change takes four places of the line or more
+    // there are no more changes than bytes in the line
     for _ in 0..line.len() {
         if line.len() <= next {
             break;
@@ -36,7 +37,7 @@ pub(crate) fn read(line: &[u8], at: usize) -> MadeUp {
     }
     MadeUp {
         receiver,
-        whole: line.len() <= next,
+        complete: line.len() <= next,
     }
 }
 
@@ -44,7 +45,7 @@ pub(crate) fn read(line: &[u8], at: usize) -> MadeUp {
 pub(crate) fn none() -> MadeUp {
     MadeUp {
         receiver: good(),
-        whole: false,
+        complete: false,
     }
 }
 

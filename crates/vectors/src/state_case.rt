@@ -68,7 +68,7 @@ fn formed(line: &[u8]) -> bool {
         return false;
     }
     let given = made_up::read(line, 6);
-    if !given.whole {
+    if !given.complete {
         return false;
     }
     let receiver = given.receiver;
@@ -90,7 +90,7 @@ fn given(line: &[u8], word: &[u8], numbers: &mut [u32]) -> MadeUp {
 fn placed(line: &[u8]) -> bool {
     let mut n = [0u32; 3];
     let given = given(line, b"placed", &mut n);
-    if !given.whole {
+    if !given.complete {
         return false;
     }
     let receiver = given.receiver;
@@ -116,7 +116,7 @@ fn write_place(r: Receiver, n: [u32; 3]) -> bool {
 fn insert(line: &[u8]) -> bool {
     let mut n = [0u32; 6];
     let given = given(line, b"insert", &mut n);
-    if !given.whole {
+    if !given.complete {
         return false;
     }
     let receiver = given.receiver;
@@ -158,7 +158,7 @@ fn write_fragment(f: Fragment) {
 fn found(line: &[u8]) -> bool {
     let mut n = [0u32; 1];
     let given = given(line, b"found", &mut n);
-    if !given.whole {
+    if !given.complete {
         return false;
     }
     let receiver = given.receiver;
@@ -169,7 +169,7 @@ fn found(line: &[u8]) -> bool {
 fn keep(line: &[u8]) -> bool {
     let mut n = [0u32; 3];
     let given = given(line, b"keep", &mut n);
-    if !given.whole {
+    if !given.complete {
         return false;
     }
     let receiver = given.receiver;

@@ -84,12 +84,12 @@ returns c =
     let b = c .before .before in
     let u = b .before .before in
     let e : b .loop .i ≡ u .used .result = omega arith in
-    let line = rw e at (b .loop .inv .2) in
+    let line = rw e at (b .loop .inv .2) ∙ Order.ordered-chain (take (u .used .result) (u .before .args .t1)) in
     let bytes = rw e at (b .loop .inv .3) in
     let last = rw e at (b .loop .inv .5) in
     let end = c .stop .ensures ∙ ap stop last in
     let marker = ap (λ (f : Fragment). f .marker) last in
-    let all : record { line = eqb (b .loop .wrong) 0; stop = c .stop .result; marker = b .loop .last .marker; bytes = b .loop .bytes } ≡ surveyed (take (u .used .result) (u .before .args .t1)) = cc (line, end, marker, bytes) in
+    let all : record { ordered = eqb (b .loop .wrong) 0; stop = c .stop .result; marker = b .loop .last .marker; bytes = b .loop .bytes } ≡ surveyed (take (u .used .result) (u .before .args .t1)) = cc (line, end, marker, bytes) in
     all ∙ ap surveyed (first-of-64 (u .before .args .count) (u .before .args .t1) (search needs) (u .used .ensures))
 
 pub survey-spec : {M : Type 1} → statement M

@@ -8,9 +8,11 @@ use borrow.Author.Tests.{not-true, not-false, le-leb, lt-leb}
 use lib.Dec.{leb}
 use lib.ListN.{length}
 use Rattle.fragments.specs.Array.{first-starts}
-use Rattle.state.specs.Receiver.{held, unused, headerOf}
-use Rattle.state.specs.WellFormed.{isRoom, pictureRight, fragmentsRight, tablesGiven, tablesRight, wellFormed, fragments-right}
+use Rattle.fragments.specs.Order.{in-place}
+use Rattle.state.specs.Receiver.{heldFragments}
+use Rattle.state.specs.WellFormed.{isRoom, tablesGiven}
 use Rattle.state.specs.declared.Receiver.{Receiver}
+use Rattle.state.proofs.Grouped.{pictureOf, fragmentsOf, tablesOf, grouped, are-in-place, regrouped}
 use Rattle.state.proofs.well_formed.Statement.{statement}
 use Rattle.state.proofs.well_formed.Tie as tie
 
@@ -20,55 +22,53 @@ room c = sym (c .before .is-room .ensures) ∙ not-false _ (c .if1 .left)
 counted : (c : tie.Else2) → leb (c .before .before .before .before .args .receiver .«fragment_count») 64 ≡ true
 counted c = le-leb _ 64 (c .if2 .left)
 
-abbrev pictureOf : Receiver → Type 0
-pictureOf r = pictureRight (r .picture) (r .time) (r .«fragment_count») (headerOf r) ≡ true
+abbrev receiver : tie.Else3 → Receiver
+receiver c = c .before .before .before .before .before .before .args .receiver
 
-pictured : (c : tie.Else3) → pictureOf (c .before .before .before .before .before .before .args .receiver)
+pictured : (c : tie.Else3) → pictureOf (receiver c) ≡ true
 pictured c = sym (c .before .picture-right .ensures) ∙ not-false _ (c .if3 .left)
 
-abbrev fragmentsOf : Receiver → Type 0
-fragmentsOf r = fragmentsRight (held r) (unused r) (r .room) (r .end) (r .whole) ≡ true
-
-filed : (c : tie.Else4) → fragmentsOf (c .before .before .before .before .before .before .before .before .before .args .receiver)
+filed : (c : tie.Else4) → fragmentsOf (c .before .before .before .before .before .before .before .before .before .args .receiver) ≡ true
 filed c = sym (c .before .fragments-right .ensures .0) ∙ not-false _ (c .if4 .left)
 
-abbrev tablesOfReceiver : Receiver → Bool
-tablesOfReceiver r = tablesRight (held r) (r .q) (r .tables)
-
-tabled : (c : tie.After-tables-right) → c .tables-right .result ≡ tablesOfReceiver (c .before .before .before .before .before .before .before .before .before .before .before .before .args .receiver)
+tabled : (c : tie.After-tables-right) → c .tables-right .result ≡ tablesOf (c .before .before .before .before .before .before .before .before .before .before .before .before .args .receiver)
 tabled c =
     let f = c .before .before .before in
     let r = f .before .before .before .before .before .before .before .before .before .args .receiver in
     let few : r .«fragment_count» ≤ length (r .fragments) = omega (arith, f .before .fragments-right .ensures .1, f .before .before .before .before .before .if2 .left) in
-    let order = fragments-right (held r) (unused r) (r .room) (r .end) (r .whole) (filed f) .in-place .order in
+    let order = in-place (r .room) (heldFragments r) (are-in-place r (filed f)) .order in
     c .tables-right .ensures ∙ ap (λ (b : Bool). tablesGiven b (r .q) (r .tables)) (sym (first-starts (r .fragments) (r .«fragment_count») few order))
 
 is-room-requires : tie.Need-is-room-requires
 is-room-requires c κs = search needs
 
 returns : tie.Need-returns
-unfolding wellFormed
-returns c = rw (sym (c .before .is-room .ensures) ∙ not-true _ (c .if1 .taken))
+unfolding grouped
+returns c = rw (sym (c .before .is-room .ensures) ∙ not-true _ (c .if1 .taken)) at (regrouped (c .before .before .args .receiver))
 
 returns-2 : tie.Need-returns-2
-unfolding wellFormed
-returns-2 c = rw (room (c .before .before), lt-leb (c .before .before .before .before .args .receiver .«fragment_count») 64 (c .if2 .taken))
+unfolding grouped
+returns-2 c =
+    let r = c .before .before .before .before .args .receiver in
+    rw (room (c .before .before), lt-leb (r .«fragment_count») 64 (c .if2 .taken)) at (regrouped r)
 
 picture-right-requires : tie.Need-picture-right-requires
 picture-right-requires c κs = search needs
 
 returns-3 : tie.Need-returns-3
-unfolding wellFormed
-returns-3 c = rw (room (c .before .before .before .before), counted (c .before .before), sym (c .before .picture-right .ensures) ∙ not-true _ (c .if3 .taken))
+unfolding grouped
+returns-3 c =
+    rw (room (c .before .before .before .before), counted (c .before .before), sym (c .before .picture-right .ensures) ∙ not-true _ (c .if3 .taken))
+    at (regrouped (c .before .before .before .before .before .before .args .receiver))
 
 fragments-right-requires : tie.Need-fragments-right-requires
 fragments-right-requires c κs = search needs
 
 returns-4 : tie.Need-returns-4
-unfolding wellFormed
+unfolding grouped
 returns-4 c =
     let p = c .before .before .before in
-    rw (room (p .before .before .before .before), counted (p .before .before), pictured p, sym (c .before .fragments-right .ensures .0) ∙ not-true _ (c .if4 .taken))
+    rw (room (p .before .before .before .before), counted (p .before .before), pictured p, sym (c .before .fragments-right .ensures .0) ∙ not-true _ (c .if4 .taken)) at (regrouped (receiver p))
 
 array-copy-out-tables-right : tie.Need-array-copy-out-tables-right
 array-copy-out-tables-right c = search needs
@@ -77,22 +77,22 @@ tables-right-requires : tie.Need-tables-right-requires
 tables-right-requires c κs = search needs
 
 returns-5 : tie.Need-returns-5
-unfolding wellFormed
+unfolding grouped
 returns-5 c =
     let f = c .before .before .before .before in
     let p = f .before .before .before in
-    rw (room (p .before .before .before .before), counted (p .before .before), pictured p, filed f, sym (tabled (c .before)) ∙ not-true _ (c .if5 .taken))
+    rw (room (p .before .before .before .before), counted (p .before .before), pictured p, filed f, sym (tabled (c .before)) ∙ not-true _ (c .if5 .taken)) at (regrouped (receiver p))
 
 well-kept-requires : tie.Need-well-kept-requires
 well-kept-requires c κs = search needs
 
 returns-6 : tie.Need-returns-6
-unfolding wellFormed
+unfolding grouped
 returns-6 c =
     let t = c .before .before in
     let f = t .before .before .before .before in
     let p = f .before .before .before in
-    rw (room (p .before .before .before .before), counted (p .before .before), pictured p, filed f, sym (tabled (t .before)) ∙ not-false _ (t .if5 .left)) (c .well-kept .ensures)
+    c .well-kept .ensures ∙ rw (room (p .before .before .before .before), counted (p .before .before), pictured p, filed f, sym (tabled (t .before)) ∙ not-false _ (t .if5 .left)) at (regrouped (receiver p))
 
 pub well-formed-spec : {M : Type 1} → statement M
 well-formed-spec =

@@ -20,7 +20,7 @@ unfolding inLine
 judged c =
     let a = c .before .before .args in
     c .are-in-place .ensures
-    ∙ ap (λ (r : Surveyed). r .line && leb (r .stop) (a .room) && leb (r .marker) 1) (c .before .survey .ensures)
+    ∙ ap (λ (r : Surveyed). r .ordered && leb (r .stop) (a .room) && leb (r .marker) 1) (c .before .survey .ensures)
     ∙ in-line (a .room) (take (a .count) (a .fragments))
 
 placed : (c : tie.Else1) → inPlace (c .before .before .before .args .room) (take (c .before .before .before .args .count) (c .before .before .before .args .fragments)) ≡ true
