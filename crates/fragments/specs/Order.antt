@@ -9,7 +9,7 @@ use lib.Dec.{ltb, leb, eqb}
 use Rattle.laws.specs.All.{all, all-each, each-all, pairwise}
 use Rattle.laws.specs.Chained.{chained, lastOf}
 use Rattle.laws.specs.Each.{Each, each-weaken, each-both}
-use Rattle.laws.specs.Truth.{and-true, same-test}
+use Rattle.laws.specs.Truth.{split, and-true, same-test}
 use Rattle.fragments.specs.Fragments.{stop, nothing}
 use Rattle.fragments.specs.Shared.{share, unshared, in-front}
 use Rattle.fragments.specs.Tiles.{markerBefore}
@@ -31,14 +31,22 @@ isApart f g = not (share f g)
 abbrev pub endsBy : ℕ → Fragment → Bool
 endsBy room f = leb (stop f) room
 
--- a marker, 1 or 0, that is 0 on all but the last
-abbrev pub markedLast : List Fragment → Bool
-markedLast [] = true
-markedLast (f ∷ fs) = leb (f .marker) (markerBefore fs) && markedLast fs
+-- no marker but on the last
+abbrev pub frontUnmarked : List Fragment → Bool
+frontUnmarked [] = true
+frontUnmarked (f ∷ []) = true
+frontUnmarked (f ∷ g ∷ gs) = eqb (f .marker) 0 && frontUnmarked (g ∷ gs)
 
--- Fragments of 1 byte or more, rising, apart, and inside the room; a marker on the last at most.
+abbrev pub last : List Fragment → Fragment
+last fs = lastOf nothing fs
+
+-- Fragments of 1 byte or more, rising and apart, and no marker but on the last.
+unfoldable pub areOrdered : List Fragment → Bool
+areOrdered fs = all hasBytes fs && pairwise rises fs && pairwise isApart fs && frontUnmarked fs
+
+-- The same inside a room, and the marker of the last is 1 or 0.
 unfoldable pub inPlace : ℕ → List Fragment → Bool
-inPlace room fs = all hasBytes fs && pairwise rises fs && pairwise isApart fs && all (endsBy room) fs && markedLast fs
+inPlace room fs = areOrdered fs && all (endsBy room) fs && leb (last fs .marker) 1
 
 -- ---- laws
 
@@ -80,7 +88,24 @@ in-order-tests at (f ∷ fs) o =
       rw (each-all (isApart f) fs (each-weaken (λ (g : Fragment). stop f ≤ g .offset) (λ (g : Fragment). isApart f g ≡ true) (λ g b. rw (unshared f g b)) fs behind)) (t .2),
     )
 
--- All of it, as what has to hold.
+module _ (fs : List Fragment) where
+  from-0 : (gs : List Fragment) → Each (λ (g : Fragment). 0 ≤ g .offset) gs
+  from-0 [] = tt
+  from-0 (g ∷ gs) = (omega arith, from-0 gs)
+
+  ordered : areOrdered fs ≡ true → InOrder 0 fs × (frontUnmarked fs ≡ true)
+  unfolding areOrdered
+  ordered e =
+      let a = and-true (all hasBytes fs && pairwise rises fs && pairwise isApart fs) (frontUnmarked fs) e in
+      let b = and-true (all hasBytes fs && pairwise rises fs) (pairwise isApart fs) (a .0) in
+      let c = and-true (all hasBytes fs) (pairwise rises fs) (b .0) in
+      (tests-in-order 0 fs (from-0 fs) (c .0) (c .1) (b .1), a .1)
+
+  is-ordered : InOrder 0 fs → frontUnmarked fs ≡ true → areOrdered fs ≡ true
+  unfolding areOrdered
+  is-ordered o m = let t = in-order-tests 0 fs o in rw (t .0, t .1, t .2) m
+
+-- To be in place, as what has to hold.
 abbrev pub EndBy : ℕ → List Fragment → Type 0
 EndBy room fs = Each (λ (f : Fragment). stop f ≤ room) fs
 
@@ -93,54 +118,48 @@ pub record InPlace (room : ℕ) (fs : List Fragment) : Type 0 where
   pub inside : EndBy room fs
   pub marked : MarkedLast fs
 
-marked-last : (fs : List Fragment) → markedLast fs ≡ true → MarkedLast fs
-marked-last [] e = tt
-marked-last (f ∷ fs) e = let t = and-true (leb (f .marker) (markerBefore fs)) (markedLast fs) e in (leb-true (f .marker) (markerBefore fs) (t .0), marked-last fs (t .1))
+front-of-nothing : (fs : List Fragment) → frontUnmarked (nothing ∷ fs) ≡ frontUnmarked fs
+front-of-nothing [] = refl
+front-of-nothing (f ∷ fs) = refl
 
-is-marked-last : (fs : List Fragment) → MarkedLast fs → markedLast fs ≡ true
-is-marked-last [] m = refl
-is-marked-last (f ∷ fs) m = rw (le-leb (f .marker) (markerBefore fs) (m .0)) (is-marked-last fs (m .1))
+marked-last : (g : Fragment) (fs : List Fragment) → frontUnmarked (g ∷ fs) ≡ true → lastOf g fs .marker ≤ 1 → MarkedLast (g ∷ fs)
+marked-last g [] m l = (l, tt)
+marked-last g (f ∷ fs) m l =
+    let t = and-true (eqb (g .marker) 0) (frontUnmarked (f ∷ fs)) m in
+    (omega (arith, eqb-true (g .marker) 0 (t .0)), marked-last f fs (t .1) l)
 
-from-0 : (gs : List Fragment) → Each (λ (g : Fragment). 0 ≤ g .offset) gs
-from-0 [] = tt
-from-0 (g ∷ gs) = (omega arith, from-0 gs)
+marked-tests : (g : Fragment) (fs : List Fragment) → MarkedLast (g ∷ fs) → (frontUnmarked (g ∷ fs) ≡ true) × (lastOf g fs .marker ≤ 1)
+marked-tests g [] m = (refl, m .0)
+marked-tests g (f ∷ fs) m = let t = marked-tests f fs (m .1) in (rw (eq-eqb (g .marker) 0 (omega (arith, m .0))) (t .0), t .1)
 
 module _ (room : ℕ) (fs : List Fragment) where
+  each-ends : all (endsBy room) fs ≡ true → EndBy room fs
+  each-ends e = each-weaken (λ (f : Fragment). endsBy room f ≡ true) (λ (f : Fragment). stop f ≤ room) (λ f t. leb-true (stop f) room t) fs (all-each (endsBy room) fs e)
+
+  all-end : EndBy room fs → all (endsBy room) fs ≡ true
+  all-end i = each-all (endsBy room) fs (each-weaken (λ (f : Fragment). stop f ≤ room) (λ (f : Fragment). endsBy room f ≡ true) (λ f b. le-leb (stop f) room b) fs i)
+
   pub in-place : inPlace room fs ≡ true → InPlace room fs
   unfolding inPlace
   in-place e =
-      let a = and-true (all hasBytes fs && pairwise rises fs && pairwise isApart fs && all (endsBy room) fs) (markedLast fs) e in
-      let b = and-true (all hasBytes fs && pairwise rises fs && pairwise isApart fs) (all (endsBy room) fs) (a .0) in
-      let c = and-true (all hasBytes fs && pairwise rises fs) (pairwise isApart fs) (b .0) in
-      let d = and-true (all hasBytes fs) (pairwise rises fs) (c .0) in
+      let a = and-true (areOrdered fs && all (endsBy room) fs) (leb (last fs .marker) 1) e in
+      let b = and-true (areOrdered fs) (all (endsBy room) fs) (a .0) in
+      let o = ordered fs (b .0) in
       record {
-        order = tests-in-order 0 fs (from-0 fs) (d .0) (d .1) (c .1);
-        inside = each-weaken (λ (f : Fragment). endsBy room f ≡ true) (λ (f : Fragment). stop f ≤ room) (λ f t. leb-true (stop f) room t) fs (all-each (endsBy room) fs (b .1));
-        marked = marked-last fs (a .1);
+        order = o .0;
+        inside = each-ends (b .1);
+        marked = marked-last nothing fs (front-of-nothing fs ∙ o .1) (leb-true (last fs .marker) 1 (a .1)) .1;
       }
 
   pub is-in-place : InPlace room fs → inPlace room fs ≡ true
   unfolding inPlace
   is-in-place p =
-      let t = in-order-tests 0 fs (p .order) in
-      rw (t .0, t .1, t .2, each-all (endsBy room) fs (each-weaken (λ (f : Fragment). stop f ≤ room) (λ (f : Fragment). endsBy room f ≡ true) (λ f b. le-leb (stop f) room b) fs (p .inside)))
-      (is-marked-last fs (p .marked))
+      let t = marked-tests nothing fs (omega arith, p .marked) in
+      rw (is-ordered fs (p .order) (sym (front-of-nothing fs) ∙ t .0), all-end (p .inside)) (le-leb (last fs .marker) 1 (t .1))
 
--- In order, whatever the room is: of 1 byte or more, rising, apart, and no marker but on the last.
-abbrev pub frontUnmarked : List Fragment → Bool
-frontUnmarked [] = true
-frontUnmarked (f ∷ []) = true
-frontUnmarked (f ∷ g ∷ gs) = eqb (f .marker) 0 && frontUnmarked (g ∷ gs)
-
-unfoldable pub areOrdered : List Fragment → Bool
-areOrdered fs = all hasBytes fs && pairwise rises fs && pairwise isApart fs && frontUnmarked fs
-
--- The same by going through them once: each after the one before it.
+-- Order by going through them once: each after the one before it.
 unfoldable pub follows : Fragment → Fragment → Bool
 follows g f = leb (stop g) (f .offset) && leb 1 (f .length) && eqb (g .marker) 0
-
-abbrev pub last : List Fragment → Fragment
-last fs = lastOf nothing fs
 
 chained-tests : (g : Fragment) (fs : List Fragment) → chained follows g fs ≡ true → InOrder (stop g) fs × (frontUnmarked (g ∷ fs) ≡ true)
 unfolding follows
@@ -159,72 +178,29 @@ tests-chained g (f ∷ fs) o m =
     let t = and-true (eqb (g .marker) 0) (frontUnmarked (f ∷ fs)) m in
     rw (le-leb (stop g) (f .offset) (o .0), le-leb 1 (f .length) (o .1), t .0) (tests-chained f fs (o .2) (t .1))
 
-front-of-nothing : (fs : List Fragment) → frontUnmarked (nothing ∷ fs) ≡ frontUnmarked fs
-front-of-nothing [] = refl
-front-of-nothing (f ∷ fs) = refl
-
 pub ordered-chain : (fs : List Fragment) → chained follows nothing fs ≡ areOrdered fs
-unfolding areOrdered
-ordered-chain fs = same-test (chained follows nothing fs) (areOrdered fs) there back
-  where
-    there : chained follows nothing fs ≡ true → areOrdered fs ≡ true
-    there e =
-        let t = chained-tests nothing fs e in
-        let o = in-order-tests 0 fs (t .0) in
-        rw (o .0, o .1, o .2) (sym (front-of-nothing fs) ∙ t .1)
-
-    back : areOrdered fs ≡ true → chained follows nothing fs ≡ true
-    back e =
-        let a = and-true (all hasBytes fs && pairwise rises fs && pairwise isApart fs) (frontUnmarked fs) e in
-        let b = and-true (all hasBytes fs && pairwise rises fs) (pairwise isApart fs) (a .0) in
-        let c = and-true (all hasBytes fs) (pairwise rises fs) (b .0) in
-        tests-chained nothing fs (tests-in-order 0 fs (from-0 fs) (c .0) (c .1) (b .1)) (front-of-nothing fs ∙ a .1)
+ordered-chain fs = same-test (chained follows nothing fs) (areOrdered fs)
+    (λ e. let t = chained-tests nothing fs e in is-ordered fs (t .0) (sym (front-of-nothing fs) ∙ t .1))
+    (λ e. let o = ordered fs e in tests-chained nothing fs (o .0) (front-of-nothing fs ∙ o .1))
 
 -- So those in order are in place exactly where the last ends inside the room and has a marker of 0 or 1.
 unfoldable pub inLine : ℕ → List Fragment → Bool
 inLine room fs = areOrdered fs && leb (stop (last fs)) room && leb (last fs .marker) 1
 
-record Line (room : ℕ) (g : Fragment) (fs : List Fragment) : Type 0 where
-  order : InOrder (stop g) fs
-  inside : EndBy room (g ∷ fs)
-  marked : MarkedLast (g ∷ fs)
-
 module _ (room : ℕ) where
-  line : (g : Fragment) (fs : List Fragment) → chained follows g fs ≡ true → stop (lastOf g fs) ≤ room → lastOf g fs .marker ≤ 1 → Line room g fs
-  unfolding follows
-  line g [] e s m = record { order = tt; inside = (s, tt); marked = (m, tt) }
-  line g (f ∷ fs) e s m =
-      let a = and-true (follows g f) (chained follows f fs) e in
-      let b = and-true (leb (stop g) (f .offset) && leb 1 (f .length)) (eqb (g .marker) 0) (a .0) in
-      let c = and-true (leb (stop g) (f .offset)) (leb 1 (f .length)) (b .0) in
-      let l = line f fs (a .1) s m in
-      let from = leb-true (stop g) (f .offset) (c .0) in
-      record {
-        order = (from, leb-true 1 (f .length) (c .1), l .order);
-        inside = (omega (arith, l .inside .0), l .inside);
-        marked = (omega (arith, eqb-true (g .marker) 0 (b .1)), l .marked);
-      }
+  ends-by-last : (g : Fragment) (fs : List Fragment) → InOrder (stop g) fs → stop (lastOf g fs) ≤ room → EndBy room (g ∷ fs)
+  ends-by-last g [] o s = (s, tt)
+  ends-by-last g (f ∷ fs) o s = let t = ends-by-last f fs (o .2) s in (omega (arith, t .0, o), t)
 
-  line-tests : (g : Fragment) (fs : List Fragment) → Line room g fs → (chained follows g fs ≡ true) × (stop (lastOf g fs) ≤ room) × (lastOf g fs .marker ≤ 1)
-  unfolding follows
-  line-tests g [] l = (refl, l .inside .0, l .marked .0)
-  line-tests g (f ∷ fs) l =
-      let t = line-tests f fs (record { order = l .order .2; inside = l .inside .1; marked = l .marked .1 }) in
-      (rw (le-leb (stop g) (f .offset) (l .order .0), le-leb 1 (f .length) (l .order .1), eq-eqb (g .marker) 0 (omega (arith, l .marked .0))) (t .0), t .1, t .2)
+  last-ends : (g : Fragment) (fs : List Fragment) → EndBy room (g ∷ fs) → stop (lastOf g fs) ≤ room
+  last-ends g [] e = e .0
+  last-ends g (f ∷ fs) e = last-ends f fs (e .1)
 
   pub in-line : (fs : List Fragment) → inLine room fs ≡ inPlace room fs
-  unfolding inLine
-  in-line fs = same-test (inLine room fs) (inPlace room fs) there back
+  unfolding inLine inPlace
+  in-line fs = split (areOrdered fs) (λ e. rw (e, by-last e)) (λ e. rw e)
     where
-      there : inLine room fs ≡ true → inPlace room fs ≡ true
-      there e =
-          let a = and-true (areOrdered fs && leb (stop (last fs)) room) (leb (last fs .marker) 1) e in
-          let b = and-true (areOrdered fs) (leb (stop (last fs)) room) (a .0) in
-          let l = line nothing fs (ordered-chain fs ∙ b .0) (leb-true (stop (last fs)) room (b .1)) (leb-true (last fs .marker) 1 (a .1)) in
-          is-in-place room fs (record { order = l .order; inside = l .inside .1; marked = l .marked .1 })
-
-      back : inPlace room fs ≡ true → inLine room fs ≡ true
-      back e =
-          let p = in-place room fs e in
-          let t = line-tests nothing fs (record { order = p .order; inside = (omega arith, p .inside); marked = (omega arith, p .marked) }) in
-          rw (sym (ordered-chain fs) ∙ t .0, le-leb (stop (last fs)) room (t .1), le-leb (last fs .marker) 1 (t .2))
+      by-last : areOrdered fs ≡ true → leb (stop (last fs)) room ≡ all (endsBy room) fs
+      by-last e = same-test (leb (stop (last fs)) room) (all (endsBy room) fs)
+          (λ t. all-end room fs (ends-by-last nothing fs (ordered fs e .0) (leb-true (stop (last fs)) room t) .1))
+          (λ t. le-leb (stop (last fs)) room (last-ends nothing fs (omega arith, each-ends room fs t)))
