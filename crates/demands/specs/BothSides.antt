@@ -1,12 +1,14 @@
 -- The cases that document 01 marks with a star under "Both sides of each line", as one table that the checker computes.
 -- Assumes nothing.
 use Prim.Native.Nat.{ℕ, _+_}
+use mathlib.Core.Bool.{true, false}
 use mathlib.Core.List.{[], _∷_}
 use mathlib.Core.Path.{_≡_, refl}
 use lib.ListN.{getD, replicate}
 use Rattle.fragments.specs.declared.Fragment.{Fragment}
 use Rattle.laws.specs.Spelled.{spelled}
 use Rattle.laws.specs.Within.{within}
+use Rattle.receiver.specs.Time.{ahead, isNewer, isOlder}
 use Rattle.replies.specs.Checks.{judged}
 use Rattle.replies.specs.declared.Judged.the-variants.{Passed, Refused}
 use Rattle.sender.specs.Cuts.{capacity, cuts}
@@ -50,9 +52,13 @@ pub record BothSides : Type 0 where
   pub scan-173-packet-1 : judged (checks (plain 173) 192 1) ≡ Passed
   pub scan-173-packet-2 : judged (checks (plain 173) 192 2) ≡ Refused 45
   pub tables-in-the-first : cuts 192 (bringing 205) ≡ cut 0 36 0 ∷ cut 36 168 0 ∷ cut 204 1 1 ∷ []
+  pub across-2^32 : isNewer 0 4294967295 ≡ true
+  pub half-way-less-1 : isNewer 2147483647 0 ≡ true
+  pub half-way : isNewer 2147483648 0 ≡ false
+  pub half-way-past : isOlder 2147483648 0 ≡ true
 
 pub both-sides : BothSides
-unfolding lumaAt chromaAt zigzag inZigzag scale made scaled tablesOf cuts capacity restartHeader tableHeader spelled restartsOf tableSource within judged isLawful
+unfolding lumaAt chromaAt zigzag inZigzag scale made scaled tablesOf cuts capacity restartHeader tableHeader spelled restartsOf tableSource within judged isLawful ahead
 both-sides = record {
   q-50-luma-0 = refl;
   q-50-luma-2 = refl;
@@ -68,4 +74,8 @@ both-sides = record {
   scan-173-packet-1 = refl;
   scan-173-packet-2 = refl;
   tables-in-the-first = refl;
+  across-2^32 = refl;
+  half-way-less-1 = refl;
+  half-way = refl;
+  half-way-past = refl;
 }

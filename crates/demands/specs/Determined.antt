@@ -9,13 +9,17 @@ use Rattle.fragments.specs.declared.Placed.{Placed}
 use Rattle.fragments.specs.declared.Surveyed.{Surveyed}
 use Rattle.kept.specs.Kept.{IsNone, TellsHas, Finds, Keeps, TellsWell, TellsBlank}
 use Rattle.kept.specs.declared.Kept.{Kept}
+use Rattle.receiver.specs.Step.{Receives}
+use Rattle.receiver.specs.declared.Received.{Received}
 use Rattle.replies.specs.Output.{refused, succeeded, writes-determined}
 use Rattle.replies.specs.declared.Written.{Written}
 use Rattle.sender.specs.Picture.{Picture}
 use Rattle.sender.specs.Sending.{Sends}
 use Rattle.sender.specs.declared.Stamp.{Stamp}
+use Rattle.slices.specs.Slices.{GivesPart, PutsAt, TellsSame}
 use Rattle.state.specs.Opening.{Opens}
-use Rattle.state.specs.WellFormed.{TellsWellFormed}
+use Rattle.state.specs.WellFormed.{Inspects, TellsWhole}
+use Rattle.state.specs.declared.Inspected.{Inspected}
 use Rattle.state.specs.declared.Opened.{Opened}
 use Rattle.state.specs.declared.Receiver.{Receiver}
 use Rattle.tables.specs.MakeTables.{MakesTables}
@@ -68,6 +72,16 @@ is-lawful header b b′ x y = only x y
 pub are-full : (tables : List ℕ) (b b′ : Bool) → TellsFull tables b → TellsFull tables b′ → b ≡ b′
 are-full tables b b′ x y = only x y
 
+-- `slices::part`, by the bytes that it hands out, `slices::put` and `slices::are_same`
+pub part : (s : List ℕ) (at n : ℕ) (l l′ : List ℕ) → GivesPart s at n l → GivesPart s at n l′ → l ≡ l′
+part s at n l l′ a b = only a b
+
+pub put : (before : List ℕ) (at : ℕ) (bytes after after′ : List ℕ) → PutsAt before at bytes after → PutsAt before at bytes after′ → after ≡ after′
+put before at bytes after after′ a b = only a b
+
+pub are-same : (a b : List ℕ) (t t′ : Bool) → TellsSame a b t → TellsSame a b t′ → t ≡ t′
+are-same a b t t′ x y = only x y
+
 -- `sender::packet`, and `lj_packet`, which has the same contract
 pub packet : (p : Picture) (size : ℕ) (s : Stamp) (k : ℕ) (before : List ℕ) (w w′ : Written) (after after′ : List ℕ) → Sends p size s k before w after → Sends p size s k before w′ after′ → (w ≡ w′) × (after ≡ after′)
 packet p size s k before w w′ after after′ a b = writes-determined a b
@@ -104,9 +118,16 @@ well-kept k b b′ x y = only x y
 pub is-blank : (tables : List ℕ) (b b′ : Bool) → TellsBlank tables b → TellsBlank tables b′ → b ≡ b′
 is-blank tables b b′ x y = only x y
 
--- `state::open` and `state::well_formed`
+-- `state::open`, `state::inspect` and `state::whole_flag`
 pub opens : (source room : ℕ) (o o′ : Opened) → Opens source room o → Opens source room o′ → o ≡ o′
 opens source room o o′ x y = only x y
 
-pub well-formed : (r : Receiver) (b b′ : Bool) → TellsWellFormed r b → TellsWellFormed r b′ → b ≡ b′
-well-formed r b b′ x y = only x y
+pub inspect : (r : Receiver) (i i′ : Inspected) → Inspects r i → Inspects r i′ → i ≡ i′
+inspect r i i′ x y = only x y
+
+pub whole-flag : (end bytes w w′ : ℕ) → TellsWhole end bytes w → TellsWhole end bytes w′ → w ≡ w′
+whole-flag end bytes w w′ x y = only x y
+
+-- `receiver::receive`: the answer, the next receiver and the area
+pub receive : (r : Receiver) (area packet : List ℕ) (d d′ : Received) (after after′ : List ℕ) → Receives r area packet d after → Receives r area packet d′ after′ → (d ≡ d′) × (after ≡ after′)
+receive r area packet d d′ after after′ a b = (only (a .answer) (b .answer), only (a .lent) (b .lent))

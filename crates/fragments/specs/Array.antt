@@ -1,21 +1,22 @@
 -- The fragments held in an array of 64 places: the first `count` of them. Assumes nothing.
-use Prim.Native.Nat.{ℕ, zero, suc, _≤_, _<_}
-use mathlib.Core.Bool.{Bool, cond, _&&_}
-use mathlib.Core.List.{List, _++_}
-use mathlib.Core.Path.{_≡_, refl, ap, _∙_}
+use Prim.Native.Nat.{ℕ, zero, suc, _-_, _≤_, _<_}
+use mathlib.Core.Bool.{Bool, true, cond, _&&_}
+use mathlib.Core.List.{List, [], _∷_, _++_}
+use mathlib.Core.Path.{_≡_, refl, sym, ap, _∙_}
 use native.Mathlib.Omega.{arith}
 use borrow.Author.Tests.{lt-ltb}
 use lib.Dec.{ltb, leb, eqb}
-use lib.ListN.{length, take, drop}
-use lib.Seq.{length-take-le, getD-take, take-append-seam, drop-append-seam}
+use lib.ListN.{length, take, drop, replicate, length-append, length-drop, length-replicate, take-append-drop}
+use lib.Seq.{length-take-le, getD-take, drop-cons, take-append-seam, drop-append-seam}
 use Rattle.laws.specs.All.{all}
 use Rattle.laws.specs.Any.{any}
 use Rattle.laws.specs.Insert.{insertAt, length-insert-at}
+use Rattle.laws.specs.Truth.{and-true}
 use Rattle.fragments.specs.Fragments.{stop, fragmentAt, nothing}
 use Rattle.fragments.specs.Held.{total, start-held}
 use Rattle.fragments.specs.Insertion.{place, inFront}
 use Rattle.fragments.specs.Order.{areOrdered, last, InOrder}
-use Rattle.fragments.specs.Shared.{holds, share, alike}
+use Rattle.fragments.specs.Shared.{holds, share, alike, alike-same, alike-self}
 use Rattle.fragments.specs.declared.Fragment.{Fragment}
 use Rattle.fragments.specs.declared.Placed.{Placed}
 use Rattle.fragments.specs.declared.Surveyed.{Surveyed}
@@ -49,6 +50,10 @@ PutsIn a n i f b = b ≡ cond (ltb n 64 && leb i n) (putIn n i f a) a
 abbrev pub isNothing : Fragment → Bool
 isNothing f = alike f nothing
 
+-- Fragments in the array: behind them its places are unused.
+unfoldable pub padded : List Fragment → List Fragment
+padded fs = fs ++ replicate (64 - length fs) nothing
+
 -- The outcome of `are_clear`.
 abbrev pub TellsClear : List Fragment → ℕ → Bool → Type 0
 TellsClear a count b = b ≡ all isNothing (drop count a)
@@ -74,3 +79,40 @@ module _ (a : List Fragment) (n i : ℕ) (f : Fragment) (room : n < length a) wh
   pub put-in-behind : drop (suc n) (putIn n i f a) ≡ drop (suc n) a
   unfolding putIn
   put-in-behind = rw (← size) (drop-append-seam (insertAt i f (take n a)) (drop (length (insertAt i f (take n a))) a))
+
+module _ (fs : List Fragment) where
+  pub held-padded : take (length fs) (padded fs) ≡ fs
+  unfolding padded
+  held-padded = take-append-seam fs (replicate (64 - length fs) nothing)
+
+  pub unused-padded : all isNothing (drop (length fs) (padded fs)) ≡ true
+  unfolding padded
+  unused-padded = rw (drop-append-seam fs (replicate (64 - length fs) nothing)) (unused (64 - length fs))
+    where
+      unused : (n : ℕ) → all isNothing (replicate n nothing) ≡ true
+      unused zero = refl
+      unused (suc n) = rw (alike-self nothing) (unused n)
+
+  pub length-padded : length fs ≤ 64 → length (padded fs) ≡ 64
+  unfolding padded
+  length-padded h = simp (length-append, length-replicate) (omega arith)
+
+-- an array with nothing behind its first n is these, padded
+unused-places : (a : List Fragment) → all isNothing a ≡ true → a ≡ replicate (length a) nothing
+unused-places [] u = refl
+unused-places (f ∷ a) u = let t = and-true (isNothing f) (all isNothing a) u in cc (alike-same f nothing (t .0), unused-places a (t .1))
+
+unused-behind : (a : List Fragment) (n : ℕ) → length a ≡ 64 → all isNothing (drop n a) ≡ true → drop n a ≡ replicate (64 - n) nothing
+unused-behind a n long u = unused-places (drop n a) u ∙ rw (length-drop n a, long)
+
+pub padded-self : (a : List Fragment) (n : ℕ) → length a ≡ 64 → n ≤ 64 → all isNothing (drop n a) ≡ true → a ≡ padded (take n a)
+unfolding padded
+padded-self a n long h u = rw (length-take-le n a (omega arith), ← unused-behind a n long u) (sym (take-append-drop n a))
+
+-- and so with one more put in
+pub put-in-padded : (a : List Fragment) (n i : ℕ) (f : Fragment) → length a ≡ 64 → n < 64 → all isNothing (drop n a) ≡ true → putIn n i f a ≡ padded (insertAt i f (take n a))
+unfolding putIn padded
+put-in-padded a n i f long h u = rw (size a n i f (omega arith), unused-behind a (suc n) long rest)
+  where
+    rest : all isNothing (drop (suc n) a) ≡ true
+    rest = and-true (isNothing (fragmentAt a n)) (all isNothing (drop (suc n) a)) (rw (drop-cons a n nothing (omega arith)) at u) .1

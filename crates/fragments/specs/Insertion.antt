@@ -84,15 +84,16 @@ module _ (f : Fragment) where
       (λ n. rw n (end-marked (stop g) gs m (o .2) (rw n at z)))))
       (λ e. rw (e, m))
 
-  -- those that share no byte with it stay in order
+  -- those that share no byte with it and begin before it ends are in front of it
+  pub ends-in-front : (g : Fragment) → share f g ≡ false → 1 ≤ f .length → 1 ≤ g .length → g .offset < stop f → stop g ≤ f .offset
+  ends-in-front g s n m b = in-front g f (share-swap f g ∙ s) m n b
+
+  -- and stay in order
   pub in-order-insert : (at : ℕ) (fs : List Fragment) → InOrder at fs → at ≤ f .offset → 1 ≤ f .length → Each (λ (g : Fragment). share f g ≡ false) fs → InOrder at (insert f fs)
   in-order-insert at [] o a n s = (a, n, tt)
   in-order-insert at (g ∷ gs) o a n s = split (ltb (g .offset) (stop f))
-      (λ e. rw e (o .0, o .1, in-order-insert (stop g) gs (o .2) (ends g (s .0) (o .1) (ltb-true (g .offset) (stop f) e)) n (s .1)))
+      (λ e. rw e (o .0, o .1, in-order-insert (stop g) gs (o .2) (ends-in-front g (s .0) n (o .1) (ltb-true (g .offset) (stop f) e)) n (s .1)))
       (λ e. rw e (a, n, (ltb-false (g .offset) (stop f) e, o .1, o .2)))
-    where
-      ends : (g : Fragment) → share f g ≡ false → 1 ≤ g .length → g .offset < stop f → stop g ≤ f .offset
-      ends g s m b = in-front g f (share-swap f g ∙ s) m n b
 
   -- Of those held in order, the one in front of its place tells for all: what is further in front ends before that one begins, and
   -- what is behind begins where it ends or later. So for a test that only those pass that share a byte with it, and that goes on

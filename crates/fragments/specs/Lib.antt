@@ -4,4 +4,5 @@ pub mod Shared
 pub mod Order
 pub mod Held
 pub mod Insertion
+pub mod Clash
 pub mod Array

@@ -45,7 +45,7 @@ pub record Inside (start end : ℕ) (c : Fragment) : Type 0 where
   pub to : stop c ≤ end
   pub marker : c .marker ≤ 1
 
-marker-small : (cs : List Fragment) → markerBefore cs ≤ 1
+pub marker-small : (cs : List Fragment) → markerBefore cs ≤ 1
 marker-small [] = omega arith
 marker-small (c ∷ cs) = omega arith
 

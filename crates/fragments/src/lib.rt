@@ -4,6 +4,7 @@ mod pair;
 
 ghost use Prim.Native.Nat.{min};
 ghost use mathlib.Core.Path.{_≡_};
+ghost use lib.ListN.{length};
 ghost use Rattle.fragments.specs.Array.{Surveys, Places, PutsIn, TellsClear};
 ghost use Rattle.fragments.specs.Fragments as Fragments;
 use pair::alike;
@@ -36,9 +37,11 @@ pub struct Placed {
 }
 
 // What one pass over the first `count` tells. It counts those that do not follow the one before and has no early way out, so that
-// the compiler can vectorise it.
+// the compiler can vectorise it. The second clause hands on what the array's type says, which the prover does not know of a struct's
+// field.
 pub fn survey(fragments: [Fragment; 64], count: u32) -> Surveyed
     ensures { λ r. ⌜ Surveys fragments count r ⌝ }
+    ensures { λ _. ⌜ length fragments ≡ 64 ⌝ }
 {
     let n = used(count);
     let mut wrong: u32 = 0;

@@ -5,7 +5,7 @@ use mathlib.Core.Path.{_≡_, sym, ap, _∙_}
 use native.Mathlib.Nat.{add-zero, zero-add, suc-add}
 use native.Mathlib.Numerals.{add-one}
 use native.Mathlib.Omega.{arith}
-use lib.ListN.{length, getD, take, drop, set, length-append, take-append-drop}
+use lib.ListN.{length, getD, take, drop, set, length-append, length-take, length-drop, take-append-drop}
 use lib.Seq.{set-split, take-append-seam, drop-append-add, drop-drop, length-take-le}
 use Rattle.laws.specs.Lists.{fill-more}
 
@@ -17,6 +17,9 @@ pub record Puts (before : List ℕ) (at : ℕ) (bytes after : List ℕ) : Type 0
   pub same : after ≡ put before at bytes
 
 -- ---- laws
+
+pub length-put : (l : List ℕ) (at : ℕ) (bytes : List ℕ) → at + length bytes ≤ length l → length (put l at bytes) ≡ length l
+length-put l at bytes h = simp (length-append, length-take, length-drop) (omega arith)
 
 put-front : (l bytes : List ℕ) → put l 0 bytes ≡ bytes ++ drop (length bytes) l
 put-front l bytes = rw (zero-add (length bytes))

@@ -2,7 +2,7 @@
 use Prim.Native.Nat.{ℕ, zero, suc, _+_, _<_}
 use mathlib.Core.Bool.{Bool, true, false, _&&_}
 use mathlib.Core.List.{List, [], _∷_}
-use mathlib.Core.Path.{_≡_, refl, _∙_}
+use mathlib.Core.Path.{_≡_, refl, ap, _∙_}
 use native.Mathlib.Nat.{not-suc-le-zero, le-of-suc-le-suc}
 use native.Mathlib.Numerals.{add-one}
 use borrow.Author.Tests.{eqb-true, eq-eqb, ne-eqb}
@@ -27,6 +27,13 @@ same-true [] [] h = refl
 same-true [] (y ∷ m) h = cc
 same-true (x ∷ l) [] h = cc
 same-true (x ∷ l) (y ∷ m) h = let t = and-true (eqb x y) (same l m) h in cc (eqb-true x y (t .0), same-true l m (t .1))
+
+-- of other lengths they are not
+pub same-lengths : (l m : List ℕ) → (length l ≡ length m → ⊥) → same l m ≡ false
+same-lengths [] [] h = absurd (h refl)
+same-lengths [] (y ∷ m) h = refl
+same-lengths (x ∷ l) [] h = refl
+same-lengths (x ∷ l) (y ∷ m) h = rw (same-lengths l m (λ e. h (ap suc e))) (and-false (eqb x y))
 
 -- one number more of the fronts of both
 same-suc : (l m : List ℕ) (i : ℕ) → i < length l → i < length m → same (take (suc i) l) (take (suc i) m) ≡ (same (take i l) (take i m) && eqb (getD l i 0) (getD m i 0))

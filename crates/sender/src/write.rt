@@ -42,12 +42,9 @@ pub(crate) fn put_packet(
 
 // The part of a scan that a packet carries.
 fn scan_of(scan: &[u8], cut: Fragment) -> &[u8]
-    requires { ⌜ stop cut ≤ length (now scan) ⌝ }
     ensures { λ r. ⌜ now r ≡ bytesOf (now (scan .entry)) cut ⌝ }
 {
-    let from = cut.offset as usize;
-    let to = from + cut.length as usize;
-    &scan[from..to]
+    slices::part(scan, cut.offset as usize, cut.length as usize)
 }
 
 // The JPEG headers, behind the RTP header.
@@ -133,9 +130,7 @@ fn put_bytes(bytes: &[u8], at: usize, out: &mut [u8])
     requires { ⌜ at + length (now bytes) ≤ length (now out) ⌝ }
     ensures { λ _. ⌜ Puts (now (out .entry)) at (now (bytes .entry)) (now (out .exit)) ⌝ }
 {
-    for i in 0..bytes.len() {
-        out[at + i] = bytes[i];
-    }
+    slices::put(bytes, at, out);
 }
 
 fn put_u32(v: u32, at: usize, out: &mut [u8])

@@ -14,7 +14,7 @@ use Rattle.fragments.specs.declared.Fragment.{Fragment}
 use Rattle.laws.specs.All.{all}
 use Rattle.laws.specs.Any.{any}
 use Rattle.laws.specs.Same.{same}
-use Rattle.laws.specs.Truth.{and-true}
+use Rattle.laws.specs.Truth.{split, and-true}
 use Rattle.laws.specs.Within.{within, Between, is-within, between}
 use Rattle.tables.specs.Quantiser.{tablesOf}
 use Rattle.wire.specs.Lawful.{isLawful}
@@ -23,6 +23,8 @@ use Rattle.wire.specs.TableSource.{tableSource, isMade}
 use Rattle.wire.specs.declared.Header.{Header}
 use Rattle.kept.specs.Kept.{wellKept}
 use Rattle.state.specs.Receiver.{heldFragments, unused, headerOf}
+use Rattle.state.specs.declared.Inspected.{Inspected}
+use Rattle.state.specs.declared.Inspected.the-variants.{NotWellFormed, Holds}
 use Rattle.state.specs.declared.Receiver.{Receiver}
 
 -- "room 1 to 65,536"
@@ -49,6 +51,10 @@ endRight end fs = eqb end (Held.endOf fs)
 -- "whole exactly as defined": 1 or 0
 abbrev pub flag : Bool → ℕ
 flag b = cond b 1 0
+
+-- The outcome of `whole_flag`, for an end and how many bytes are held.
+abbrev pub TellsWhole : ℕ → ℕ → ℕ → Type 0
+TellsWhole end bytes w = w ≡ flag (Held.reached end bytes)
 
 abbrev pub wholeRight : ℕ → List Fragment → Bool
 wholeRight whole fs = eqb whole (flag (Held.whole fs))
@@ -81,9 +87,13 @@ wellFormed r =
     && wellKept (r .kept)
     && wholeRight (r .whole) (heldFragments r)
 
--- The outcome of `well_formed`.
-abbrev pub TellsWellFormed : Receiver → Bool → Type 0
-TellsWellFormed r b = b ≡ wellFormed r
+-- What a look at a receiver tells: how many scan bytes it holds, if it is well formed.
+unfoldable pub inspected : Receiver → Inspected
+inspected r = cond (wellFormed r) (Holds (Held.total (heldFragments r))) NotWellFormed
+
+-- The outcome of `inspect`.
+abbrev pub Inspects : Receiver → Inspected → Type 0
+Inspects r i = i ≡ inspected r
 
 -- The rules of the fragments, in the group in which the check asks for them.
 unfoldable pub fragmentsRight : List Fragment → List Fragment → ℕ → ℕ → ℕ → Bool
@@ -147,6 +157,26 @@ pub held-within-room : {r : Receiver} → WellFormed r → Held.total (heldFragm
 held-within-room {r} w =
     let p = w .in-place in
     omega (arith, Held.total-within 0 (r .room) (heldFragments r) (p .order) (p .inside) (omega arith))
+
+-- a look at a receiver, by whether it is well formed
+module _ (r : Receiver) where
+  pub inspected-holds : wellFormed r ≡ true → inspected r ≡ Holds (Held.total (heldFragments r))
+  unfolding inspected
+  inspected-holds e = rw e
+
+  pub inspected-not : wellFormed r ≡ false → inspected r ≡ NotWellFormed
+  unfolding inspected
+  inspected-not e = rw e
+
+  pub holds-inspected : {n : ℕ} → inspected r ≡ Holds n → (wellFormed r ≡ true) × (n ≡ Held.total (heldFragments r))
+  holds-inspected {n} i = split (wellFormed r)
+      (λ e. let h = inspected-holds e in (e, cc))
+      (λ e. let h = inspected-not e in let z : _≡_ {A = ℕ} 0 1 = cc in absurd (omega arith))
+
+  pub not-inspected : inspected r ≡ NotWellFormed → wellFormed r ≡ false
+  not-inspected i = split (wellFormed r)
+      (λ e. let h = inspected-holds e in let z : _≡_ {A = ℕ} 0 1 = cc in absurd (omega arith))
+      (λ e. e)
 
 -- what there is without a picture, and with one
 module _ (time count : ℕ) (h : Header) where

@@ -3,12 +3,13 @@
 ghost use mathlib.Core.Bool.{cond, _&&_};
 ghost use mathlib.Core.Path.{_≡_};
 ghost use lib.Dec.{ltb, leb, eqb};
-ghost use lib.ListN.{length, take, drop};
-ghost use Rattle.fragments.specs.Held.{reached};
+ghost use lib.ListN.{take, drop};
+ghost use Rattle.fragments.specs.Array.{Surveys};
 ghost use Rattle.laws.specs.Same.{same};
 ghost use Rattle.laws.specs.Within.{Between};
 ghost use Rattle.tables.specs.Quantiser.{tablesOf};
 ghost use Rattle.state.specs.WellFormed as Rule;
+use crate::whole_flag;
 use fragments::Fragment;
 use fragments::Surveyed;
 use wire::Header;
@@ -33,18 +34,17 @@ fn is_unset(time: u32, count: u32, header: Header) -> bool
     time as u64 + count as u64 + fields == 0
 }
 
-// The second clause hands on what the array's type says, which the prover does not know of a struct's field.
 pub(crate) fn fragments_right(
     fragments: [Fragment; 64],
+    survey: Surveyed,
     count: u32,
     room: u32,
     end: u32,
     whole: u32,
 ) -> bool
+    requires { ⌜ Surveys fragments count survey ⌝ }
     ensures { λ r. ⌜ r ≡ Rule.fragmentsRight (take count fragments) (drop count fragments) room end whole ⌝ }
-    ensures { λ r. ⌜ length fragments ≡ 64 ⌝ }
 {
-    let survey = fragments::survey(fragments, count);
     if !are_in_place(survey, room) {
         return false;
     }
@@ -74,16 +74,6 @@ fn end_given(survey: Surveyed) -> u64
     ensures { λ r. ⌜ r ≡ cond (eqb (survey .marker) 1) (survey .stop) 0 ⌝ }
 {
     if survey.marker == 1 { survey.stop } else { 0 }
-}
-
-// 1 where the end is known and the bytes held add up to it.
-fn whole_flag(end: u32, bytes: u64) -> u32
-    ensures { λ r. ⌜ r ≡ Rule.flag (reached end bytes) ⌝ }
-{
-    if end == 0 {
-        return 0;
-    }
-    if bytes == end as u64 { 1 } else { 0 }
 }
 
 // Whether the tables are what the Q and the fragments held call for, of which `first` is the first of `count`. A reserved Q was
@@ -119,17 +109,5 @@ fn are_made(q: u32, tables: [u8; 128]) -> bool
 {
     let mut made = [0u8; 128];
     tables::make_tables(q, &mut made);
-    are_same(tables, made)
-}
-
-fn are_same(a: [u8; 128], b: [u8; 128]) -> bool
-    ensures { λ r. ⌜ r ≡ same a b ⌝ }
-{
-    let mut right = true;
-    for i in 0..128 {
-        if a[i] != b[i] {
-            right = false;
-        }
-    }
-    right
+    slices::are_same(&tables, &made)
 }

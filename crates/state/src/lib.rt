@@ -2,10 +2,13 @@
 mod check;
 
 ghost use mathlib.Core.Path.{_≡_};
+ghost use lib.ListN.{length};
+ghost use Rattle.fragments.specs.Array.{Surveys};
 ghost use Rattle.state.specs.Opening.{Opens};
 ghost use Rattle.state.specs.Receiver.{fresh};
-ghost use Rattle.state.specs.WellFormed.{isRoom, TellsWellFormed};
+ghost use Rattle.state.specs.WellFormed.{isRoom, wellFormed, Inspects, TellsWhole};
 use fragments::Fragment;
+use fragments::Surveyed;
 use kept::Kept;
 use replies::ROOM_OUTSIDE;
 use replies::SUCCESS;
@@ -43,6 +46,12 @@ pub struct Answer {
 pub struct Opened {
     pub answer: Answer,
     pub receiver: Receiver,
+}
+
+// What a look at a receiver tells: that it does not keep its rules, or how many scan bytes it holds.
+pub enum Inspected {
+    NotWellFormed,
+    Holds(u32),
 }
 
 // A receiver of a source, with `room` bytes for its scan.
@@ -104,14 +113,31 @@ fn fresh(source: u32, room: u32) -> Receiver
     }
 }
 
-// Whether a receiver keeps every rule of document 01's "Well formed means", and nothing else. Reply 9 is for one that does not.
-pub fn well_formed(receiver: Receiver) -> bool
-    ensures { λ r. ⌜ TellsWellFormed receiver r ⌝ }
+// Whether a receiver keeps every rule of document 01's "Well formed means", and nothing else; reply 9 is for one that does not.
+// The second clause hands on what the array's type says.
+pub fn inspect(receiver: Receiver) -> Inspected
+    ensures { λ r. ⌜ Inspects receiver r ⌝ }
+    ensures { λ _. ⌜ length (receiver .fragments) ≡ 64 ⌝ }
+{
+    let fragments = receiver.fragments;
+    let survey = fragments::survey(fragments, receiver.fragment_count);
+    if !well_formed(receiver, survey) {
+        return Inspected::NotWellFormed;
+    }
+    let held = survey.bytes as u32;
+    Inspected::Holds(held)
+}
+
+// The rules, with the survey of the fragments held.
+fn well_formed(receiver: Receiver, survey: Surveyed) -> bool
+    requires { ⌜ Surveys (receiver .fragments) (receiver .«fragment_count») survey × (length (receiver .fragments) ≡ 64) ⌝ }
+    ensures { λ r. ⌜ r ≡ wellFormed receiver ⌝ }
 {
     if !is_room(receiver.room) {
         return false;
     }
-    if 64 < receiver.fragment_count {
+    let count = receiver.fragment_count;
+    if 64 < count {
         return false;
     }
     let header = Header {
@@ -121,18 +147,14 @@ pub fn well_formed(receiver: Receiver) -> bool
         height: receiver.height,
         interval: receiver.interval,
     };
-    if !check::picture_right(
-        receiver.picture,
-        receiver.time,
-        receiver.fragment_count,
-        header,
-    ) {
+    if !check::picture_right(receiver.picture, receiver.time, count, header) {
         return false;
     }
     let fragments = receiver.fragments;
     if !check::fragments_right(
         fragments,
-        receiver.fragment_count,
+        survey,
+        count,
         receiver.room,
         receiver.end,
         receiver.whole,
@@ -140,9 +162,19 @@ pub fn well_formed(receiver: Receiver) -> bool
         return false;
     }
     let tables = receiver.tables;
-    if !check::tables_right(fragments[0], receiver.fragment_count, receiver.q, tables) {
+    if !check::tables_right(fragments[0], count, receiver.q, tables) {
         return false;
     }
     let kept = receiver.kept;
     kept::well_kept(kept)
+}
+
+// The flag of a whole picture: 1 where the end is known and the bytes held add up to it.
+pub fn whole_flag(end: u32, bytes: u64) -> u32
+    ensures { λ r. ⌜ TellsWhole end bytes r ⌝ }
+{
+    if end == 0 {
+        return 0;
+    }
+    if bytes == end as u64 { 1 } else { 0 }
 }

@@ -90,7 +90,7 @@ fn hex_digit(byte: u8) -> u8
     }
 }
 
-fn fill(out: &mut [u8], byte: u8) {
+pub(crate) fn fill(out: &mut [u8], byte: u8) {
     for i in 0..out.len() {
         out[i] = byte;
     }

@@ -6,9 +6,11 @@ use crate::made_up::MadeUp;
 use crate::text::Place;
 use crate::text::begins;
 use crate::text::next_numbers;
+use crate::text::reads_as;
 use crate::text::write_number;
 use fragments::Fragment;
 use kept::Kept;
+use state::Inspected;
 use state::Receiver;
 
 // Whether the line is such a case.
@@ -17,14 +19,8 @@ pub(crate) fn run(line: &[u8]) -> bool {
 }
 
 fn open(line: &[u8]) -> bool {
-    if !begins(line, b"open") {
-        return false;
-    }
     let mut n = [0u32; 2];
-    let Place::At(behind) = next_numbers(line, 4, &mut n) else {
-        return false;
-    };
-    if behind != line.len() {
+    if !reads_as(line, b"open", &mut n) {
         return false;
     }
     write_opened(n)
@@ -40,7 +36,7 @@ fn write_opened(n: [u32; 2]) -> bool {
 }
 
 // The 12 numbers, and how many of the others are not 0.
-fn write_receiver(r: Receiver) {
+pub(crate) fn write_receiver(r: Receiver) {
     write_number(r.source as u64);
     write_number(r.room as u64);
     write_number(r.picture as u64);
@@ -72,12 +68,15 @@ fn formed(line: &[u8]) -> bool {
         return false;
     }
     let receiver = given.receiver;
-    write_flag(state::well_formed(receiver));
+    match state::inspect(receiver) {
+        Inspected::Holds(_) => write_number(1),
+        Inspected::NotWellFormed => write_number(0),
+    }
     true
 }
 
 // The numbers behind a word, as many as there is room for, and then a state; none where the line is another case.
-fn given(line: &[u8], word: &[u8], numbers: &mut [u32]) -> MadeUp {
+pub(crate) fn given(line: &[u8], word: &[u8], numbers: &mut [u32]) -> MadeUp {
     if !begins(line, word) {
         return made_up::none();
     }
@@ -131,22 +130,20 @@ fn write_inserted(r: Receiver, n: [u32; 6]) -> bool {
     };
     let fragments = r.fragments;
     let after = fragments::insert(fragments, r.fragment_count, n[0] as usize, f);
-    if 64 < n[4] {
-        return false;
-    }
-    if 64 - n[4] < n[5] {
-        return false;
-    }
-    write_fragments(after, n[4] as usize, (n[4] + n[5]) as usize);
-    true
+    write_fragments(after, n[4], n[5])
 }
 
-fn write_fragments(fragments: [Fragment; 64], from: usize, to: usize)
-    requires { ⌜ to ≤ 64 ⌝ }
-{
+// So many fragments from a place on; whether there are so many places.
+pub(crate) fn write_fragments(fragments: [Fragment; 64], from: u32, count: u32) -> bool {
+    let from = from as usize;
+    let to = from + count as usize;
+    if 64 < to {
+        return false;
+    }
     for i in from..to {
         write_fragment(fragments[i]);
     }
+    true
 }
 
 fn write_fragment(f: Fragment) {

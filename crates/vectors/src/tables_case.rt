@@ -1,23 +1,12 @@
 // A case of table making, `tables Q LENGTH FROM COUNT`: the reply, the length, and COUNT bytes from place FROM of an
 // output of LENGTH bytes, at most 4,096, each 7 at first.
-use crate::text::Place;
-use crate::text::begins;
-use crate::text::next_numbers;
+use crate::text::reads_as;
 use crate::written::write_part;
-
-// The length of the case's first word.
-const WORD: usize = 6;
 
 // Whether the line is such a case.
 pub(crate) fn run(line: &[u8]) -> bool {
-    if !begins(line, b"tables") {
-        return false;
-    }
     let mut n = [0u32; 4];
-    let Place::At(behind) = next_numbers(line, WORD, &mut n) else {
-        return false;
-    };
-    if behind != line.len() {
+    if !reads_as(line, b"tables", &mut n) {
         return false;
     }
     show(n)

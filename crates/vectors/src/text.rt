@@ -121,6 +121,17 @@ pub(crate) fn next_numbers(line: &[u8], at: usize, numbers: &mut [u32]) -> Place
     Place::At(next)
 }
 
+// Whether the line is a word and behind it the numbers, as many as there is room for.
+pub(crate) fn reads_as(line: &[u8], word: &[u8], numbers: &mut [u32]) -> bool {
+    if !begins(line, word) {
+        return false;
+    }
+    let Place::At(behind) = next_numbers(line, word.len(), numbers) else {
+        return false;
+    };
+    behind == line.len()
+}
+
 // The first place of a byte from a place of the line on; the line's length or more where it does not come.
 pub(crate) fn place_of(byte: u8, line: &[u8], at: usize) -> usize {
     let mut i = at;
@@ -142,4 +153,15 @@ pub(crate) fn write_bytes(bytes: &[u8]) {
     for i in 0..bytes.len() {
         write_number(bytes[i] as u64);
     }
+}
+
+// So many bytes from a place on; whether there are so many.
+pub(crate) fn write_places(bytes: &[u8], from: u32, count: u32) -> bool {
+    let from = from as usize;
+    let to = from + count as usize;
+    if bytes.len() < to {
+        return false;
+    }
+    write_bytes(&bytes[from..to]);
+    true
 }

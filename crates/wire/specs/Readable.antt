@@ -13,7 +13,7 @@ use Rattle.laws.specs.Each.{Each, each-take, each-drop, each-weaken, each-both}
 use Rattle.laws.specs.Any.{any-none}
 use Rattle.laws.specs.Truth.{and-true}
 use Rattle.laws.specs.Within.{Between}
-use Rattle.replies.specs.Checks.{judged, both-passed}
+use Rattle.replies.specs.Checks.{judged, both-passed, refused-by}
 use Rattle.replies.specs.declared.Judged.{Judged}
 use Rattle.replies.specs.declared.Judged.the-variants.{Passed, Refused}
 use Rattle.wire.specs.Field.{Bytes, byte-small, field-small}
@@ -65,6 +65,15 @@ read-passes source p s e =
     let both = both-passed (rtpChecks source p) (jpegChecks (payload p)) (t .0) in
     record { rtp = rtp-passed source p (both .0); jpeg = jpeg-passed (payload p) (both .1); says = t .1 }
 
+-- a refusal is numbered from 10 on
+refused : (j : Judged) (t : Packet) {n : ℕ} → answered j t ≡ Answer.Refused n → j ≡ Refused n
+refused Passed t e = absurd (let z : _≡_ {A = ℕ} 0 1 = cc in omega arith)
+refused (Refused m) t e = cc
+
+pub read-refused : (source : ℕ) (p : List ℕ) {n : ℕ} → reading source p ≡ Answer.Refused n → 10 ≤ n
+unfolding reading
+read-refused source p e = refused-by (λ (n : ℕ). 10 ≤ n) (checks source p) (omega arith) (refused (judged (checks source p)) (said p) e)
+
 module _ (b : List ℕ) (bytes : Bytes b) (jpeg : JpegPassed b) where
   lawful : Lawful (headerOf b)
   lawful = record {
@@ -91,6 +100,15 @@ module _ {source : ℕ} (p : List ℕ) (rtp : RtpPassed source p) (jpeg : JpegPa
   part-there : partOf p (said p .tables) ≡ tables (payload p)
   unfolding said scanAt
   part-there = sym (payload-part p (tablesLength (payload p)) (tablesAt (payload p)) (omega (arith, long, jpeg .scan)))
+
+  -- some scan data, all of it in the packet
+  some-scan : 1 ≤ said p .scan .length
+  unfolding said
+  some-scan = omega (arith, jpeg .scan)
+
+  inside-scan : said p .scan .at + said p .scan .length ≤ length p
+  unfolding said
+  inside-scan = omega (arith, long, jpeg .scan, payload-inside p (rtp .headers) (rtp .fits))
 
   tables-inside : said p .tables .at + said p .tables .length ≤ length p
   unfolding said scanAt
@@ -146,8 +164,8 @@ module _ {source : ℕ} (p : List ℕ) (rtp : RtpPassed source p) (jpeg : JpegPa
       header = lawful (payload p) (payload-bytes p bytes) jpeg;
       tables = none-or-brought;
       always = always-brought;
-      scan = omega (arith, jpeg .scan);
-      inside = omega (arith, long, jpeg .scan, payload-inside p (rtp .headers) (rtp .fits));
+      scan = some-scan;
+      inside = inside-scan;
     }
 
 -- The laws for whoever reads packets: what is known of one, its scan data, and the tables that it brings.
@@ -157,6 +175,18 @@ module _ (source : ℕ) (p : List ℕ) (s : Packet) (read : reading source p ≡
 
   pub read-scan : scanIn p s ≡ drop (scanAt (payload p)) (payload p)
   read-scan = let t = read-passes source p s read in rw (t .says) (scan-there p (t .rtp) (t .jpeg))
+
+  pub scan-some : 1 ≤ s .scan .length
+  scan-some = let t = read-passes source p s read in rw (t .says) (some-scan p (t .rtp) (t .jpeg))
+
+  pub scan-inside : s .scan .at + s .scan .length ≤ length p
+  scan-inside = let t = read-passes source p s read in rw (t .says) (inside-scan p (t .rtp) (t .jpeg))
+
+  pub scan-short : s .scan .length ≤ longest
+  scan-short = omega (arith, scan-inside, read-passes source p s read .rtp .short)
+
+  pub scan-long : length (scanIn p s) ≡ s .scan .length
+  scan-long = simp (length-take, length-drop) (omega (arith, scan-inside))
 
   -- the tables of the table header, none where there is none
   pub read-tables : tablesIn p s ≡ filledUp (tables (payload p))

@@ -115,7 +115,7 @@ pub fn scan(packet: &[u8], said: Packet) -> &[u8]
     ensures { λ r. ⌜ GivesScan (now (packet .entry)) said (now r) ⌝ }
 {
     let part = said.scan;
-    bytes_of(packet, part)
+    slices::part(packet, part.at, part.length)
 }
 
 // The tables that a packet brings, and 128 zeros where none come.
@@ -123,22 +123,7 @@ pub fn tables(packet: &[u8], said: Packet) -> [u8; 128]
     ensures { λ r. ⌜ GivesTables (now (packet .entry)) said r ⌝ }
 {
     let part = said.tables;
-    filled_up(bytes_of(packet, part))
-}
-
-// The bytes of a part: those that the packet has there.
-fn bytes_of(packet: &[u8], part: Part) -> &[u8]
-    ensures { λ r. ⌜ now r ≡ partOf (now (packet .entry)) part ⌝ }
-{
-    let at = part.at;
-    let length = part.length;
-    if packet.len() < at {
-        return &packet[0..0];
-    }
-    if packet.len() - at < length {
-        return &packet[at..];
-    }
-    &packet[at..at + length]
+    filled_up(slices::part(packet, part.at, part.length))
 }
 
 // 128 bytes: the first of these, and 0 where there are fewer.

@@ -90,7 +90,7 @@ returns c =
     let end = c .stop .ensures ∙ ap stop last in
     let marker = ap (λ (f : Fragment). f .marker) last in
     let all : record { ordered = eqb (b .loop .wrong) 0; stop = c .stop .result; marker = b .loop .last .marker; bytes = b .loop .bytes } ≡ surveyed (take (u .used .result) (u .before .args .t1)) = cc (line, end, marker, bytes) in
-    all ∙ ap surveyed (first-of-64 (u .before .args .count) (u .before .args .t1) (search needs) (u .used .ensures))
+    (all ∙ ap surveyed (first-of-64 (u .before .args .count) (u .before .args .t1) (search needs) (u .used .ensures)), search needs)
 
 pub survey-spec : {M : Type 1} → statement M
 survey-spec =

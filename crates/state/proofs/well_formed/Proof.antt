@@ -19,23 +19,24 @@ use Rattle.state.proofs.well_formed.Tie as tie
 room : (c : tie.Else1) → isRoom (c .before .before .args .receiver .room) ≡ true
 room c = sym (c .before .is-room .ensures) ∙ not-false _ (c .if1 .left)
 
-counted : (c : tie.Else2) → leb (c .before .before .before .before .args .receiver .«fragment_count») 64 ≡ true
+counted : (c : tie.Else2) → leb (c .before .before .before .args .receiver .«fragment_count») 64 ≡ true
 counted c = le-leb _ 64 (c .if2 .left)
 
 abbrev receiver : tie.Else3 → Receiver
-receiver c = c .before .before .before .before .before .before .args .receiver
+receiver c = c .before .before .before .before .before .args .receiver
 
 pictured : (c : tie.Else3) → pictureOf (receiver c) ≡ true
 pictured c = sym (c .before .picture-right .ensures) ∙ not-false _ (c .if3 .left)
 
-filed : (c : tie.Else4) → fragmentsOf (c .before .before .before .before .before .before .before .before .before .args .receiver) ≡ true
-filed c = sym (c .before .fragments-right .ensures .0) ∙ not-false _ (c .if4 .left)
+filed : (c : tie.Else4) → fragmentsOf (c .before .before .before .before .before .before .before .before .args .receiver) ≡ true
+filed c = sym (c .before .fragments-right .ensures) ∙ not-false _ (c .if4 .left)
 
-tabled : (c : tie.After-tables-right) → c .tables-right .result ≡ tablesOf (c .before .before .before .before .before .before .before .before .before .before .before .before .args .receiver)
+tabled : (c : tie.After-tables-right) → c .tables-right .result ≡ tablesOf (c .before .before .before .before .before .before .before .before .before .before .before .args .receiver)
 tabled c =
     let f = c .before .before .before in
-    let r = f .before .before .before .before .before .before .before .before .before .args .receiver in
-    let few : r .«fragment_count» ≤ length (r .fragments) = omega (arith, f .before .fragments-right .ensures .1, f .before .before .before .before .before .if2 .left) in
+    let start = f .before .before .before .before .before .before .before .before in
+    let r = start .args .receiver in
+    let few : r .«fragment_count» ≤ length (r .fragments) = omega (arith, start .pre .1, f .before .before .before .before .before .if2 .left) in
     let order = in-place (r .room) (heldFragments r) (are-in-place r (filed f)) .order in
     c .tables-right .ensures ∙ ap (λ (b : Bool). tablesGiven b (r .q) (r .tables)) (sym (first-starts (r .fragments) (r .«fragment_count») few order))
 
@@ -49,8 +50,8 @@ returns c = rw (sym (c .before .is-room .ensures) ∙ not-true _ (c .if1 .taken)
 returns-2 : tie.Need-returns-2
 unfolding grouped
 returns-2 c =
-    let r = c .before .before .before .before .args .receiver in
-    rw (room (c .before .before), lt-leb (r .«fragment_count») 64 (c .if2 .taken)) at (regrouped r)
+    let r = c .before .before .before .args .receiver in
+    rw (room (c .before), lt-leb (r .«fragment_count») 64 (c .if2 .taken)) at (regrouped r)
 
 picture-right-requires : tie.Need-picture-right-requires
 picture-right-requires c κs = search needs
@@ -58,8 +59,8 @@ picture-right-requires c κs = search needs
 returns-3 : tie.Need-returns-3
 unfolding grouped
 returns-3 c =
-    rw (room (c .before .before .before .before), counted (c .before .before), sym (c .before .picture-right .ensures) ∙ not-true _ (c .if3 .taken))
-    at (regrouped (c .before .before .before .before .before .before .args .receiver))
+    rw (room (c .before .before .before), counted (c .before .before), sym (c .before .picture-right .ensures) ∙ not-true _ (c .if3 .taken))
+    at (regrouped (c .before .before .before .before .before .args .receiver))
 
 fragments-right-requires : tie.Need-fragments-right-requires
 fragments-right-requires c κs = search needs
@@ -68,7 +69,7 @@ returns-4 : tie.Need-returns-4
 unfolding grouped
 returns-4 c =
     let p = c .before .before .before in
-    rw (room (p .before .before .before .before), counted (p .before .before), pictured p, sym (c .before .fragments-right .ensures .0) ∙ not-true _ (c .if4 .taken)) at (regrouped (receiver p))
+    rw (room (p .before .before .before), counted (p .before .before), pictured p, sym (c .before .fragments-right .ensures) ∙ not-true _ (c .if4 .taken)) at (regrouped (receiver p))
 
 array-copy-out-tables-right : tie.Need-array-copy-out-tables-right
 array-copy-out-tables-right c = search needs
@@ -81,7 +82,7 @@ unfolding grouped
 returns-5 c =
     let f = c .before .before .before .before in
     let p = f .before .before .before in
-    rw (room (p .before .before .before .before), counted (p .before .before), pictured p, filed f, sym (tabled (c .before)) ∙ not-true _ (c .if5 .taken)) at (regrouped (receiver p))
+    rw (room (p .before .before .before), counted (p .before .before), pictured p, filed f, sym (tabled (c .before)) ∙ not-true _ (c .if5 .taken)) at (regrouped (receiver p))
 
 well-kept-requires : tie.Need-well-kept-requires
 well-kept-requires c κs = search needs
@@ -92,7 +93,7 @@ returns-6 c =
     let t = c .before .before in
     let f = t .before .before .before .before in
     let p = f .before .before .before in
-    c .well-kept .ensures ∙ rw (room (p .before .before .before .before), counted (p .before .before), pictured p, filed f, sym (tabled (t .before)) ∙ not-false _ (t .if5 .left)) at (regrouped (receiver p))
+    c .well-kept .ensures ∙ rw (room (p .before .before .before), counted (p .before .before), pictured p, filed f, sym (tabled (t .before)) ∙ not-false _ (t .if5 .left)) at (regrouped (receiver p))
 
 pub well-formed-spec : {M : Type 1} → statement M
 well-formed-spec =

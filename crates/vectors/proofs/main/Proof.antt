@@ -1,16 +1,24 @@
 -- `vectors::main` is safe and ends: the turns that are left fall. Assumes nothing.
+use mathlib.Core.Path.{_≡_}
+use lib.ListN.{length}
 use borrow.Author.Needs.{needs}
 use Rattle.vectors.proofs.main.Statement.{statement}
 use Rattle.vectors.proofs.main.Tie as tie
 
 abbrev Inv-loop : tie.InvT-loop
-Inv-loop turns₀ turns = Unit {0}
+Inv-loop area₀ session₀ turns₀ area session turns = 65536 ≡ length area
 
 abbrev μ-loop : tie.MeasureT-loop
-μ-loop turns₀ turns = turns
+μ-loop area₀ session₀ turns₀ area session turns = turns
+
+first-requires : tie.Need-first-requires Inv-loop μ-loop
+first-requires c κs = search needs
 
 loop-holds : tie.Need-loop-holds Inv-loop μ-loop
 loop-holds c = search needs
+
+slice-aggregate-one-line : tie.Need-slice-aggregate-one-line Inv-loop μ-loop
+slice-aggregate-one-line c = search needs
 
 one-line-requires : tie.Need-one-line-requires Inv-loop μ-loop
 one-line-requires c κs = search needs
@@ -36,7 +44,9 @@ main-spec =
     (tie.spec
     Inv-loop
     μ-loop
+    first-requires
     loop-holds
+    slice-aggregate-one-line
     one-line-requires
     sub-turns
     loop-less

@@ -5,10 +5,16 @@ use Rattle.vectors.proofs.state_case.write_fragments.Statement.{stateme
 use Rattle.vectors.proofs.state_case.write_fragments.Tie as tie
 
 abbrev Inv-loop : tie.InvT-loop
-Inv-loop from to fragments i₀ i = Unit {0}
+Inv-loop from count fragments from' to i₀ i = Unit {0}
 
 abbrev μ-loop : tie.MeasureT-loop
-μ-loop from to fragments i₀ i = to - i
+μ-loop from count fragments from' to i₀ i = to - i
+
+add-to : tie.Need-add-to Inv-loop μ-loop
+add-to c = search needs
+
+returns : tie.Need-returns Inv-loop μ-loop
+returns c = search needs
 
 loop-holds : tie.Need-loop-holds Inv-loop μ-loop
 loop-holds c = search needs
@@ -31,8 +37,8 @@ loop-less c = search needs
 loop-again : tie.Need-loop-again Inv-loop μ-loop
 loop-again c = search needs
 
-returns : tie.Need-returns Inv-loop μ-loop
-returns c = search needs
+returns-2 : tie.Need-returns-2 Inv-loop μ-loop
+returns-2 c = search needs
 
 pub write-fragments-spec : {M : Type 1} → statement M
 write-fragments-spec =
@@ -40,6 +46,8 @@ write-fragments-spec =
     (tie.spec
     Inv-loop
     μ-loop
+    add-to
+    returns
     loop-holds
     mul-write-fragment
     array-copy-out-write-fragment
@@ -47,4 +55,4 @@ write-fragments-spec =
     add-i
     loop-less
     loop-again
-    returns)
+    returns-2)

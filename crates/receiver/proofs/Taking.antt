@@ -1,0 +1,75 @@
+-- What an accepted packet makes of the picture that it is for, in the parts in which the code makes it. Assumes nothing.
+use Prim.Native.Nat.{ℕ, _+_, _≤_, _<_}
+use mathlib.Core.Bool.{Bool, true, false, cond}
+use mathlib.Core.List.{List}
+use mathlib.Core.Path.{_≡_, refl, sym, ap, _∙_}
+use native.Mathlib.Omega.{arith}
+use lib.Dec.{eqb}
+use lib.ListN.{length, take, drop}
+use Rattle.slices.specs.Slices.{putAt, put-fits}
+use Rattle.fragments.specs.Array.{isNothing, padded, held-padded}
+use Rattle.fragments.specs.Clash.{isMarked, end-insert}
+use Rattle.fragments.specs.Fragments.{stop}
+use Rattle.fragments.specs.Held.{total, endOf, whole, total-within}
+use Rattle.fragments.specs.Insertion.{place, insert, place-within, length-insert, total-insert}
+use Rattle.fragments.specs.declared.Fragment.{Fragment}
+use Rattle.laws.specs.All.{all}
+use Rattle.laws.specs.Insert.{insertAt}
+use Rattle.laws.specs.Put.{put}
+use Rattle.state.specs.Receiver.{heldFragments, noFragments}
+use Rattle.state.specs.WellFormed.{flag, well-formed}
+use Rattle.state.specs.declared.Receiver.{Receiver}
+use Rattle.wire.specs.Readable.{scan-long}
+use Rattle.wire.specs.Reading.{scanIn}
+use Rattle.wire.specs.declared.Packet.{Packet}
+use Rattle.receiver.specs.Known.{Known}
+use Rattle.receiver.specs.Picture.{starts, pictureFor, picture-room, picture-array, picture-in-place, picture-end, picture-unused}
+use Rattle.receiver.specs.Step.{taken}
+use Rattle.receiver.specs.Verdict.{Accepted, fragmentOf}
+use Rattle.receiver.proofs.Placing.{picture-length}
+
+module _ {r : Receiver} {p : List ℕ} {s : Packet} (known : Known r p s) (accepted : Accepted (pictureFor r s) s) where
+  pub ends-inside : stop (fragmentOf s) ≤ 65536
+  ends-inside = omega (arith, accepted .fits, picture-room r s, well-formed r (known .well-formed) .room)
+
+  pub few-held : pictureFor r s .«fragment_count» < 64
+  few-held = omega (arith, accepted .few, picture-length known)
+
+  pub one-more : pictureFor r s .«fragment_count» + 1 ≡ length (insert (fragmentOf s) (heldFragments (pictureFor r s)))
+  one-more = omega (arith, picture-length known, length-insert (fragmentOf s) (heldFragments (pictureFor r s)))
+
+  pub place-among : place (fragmentOf s) (heldFragments (pictureFor r s)) ≤ pictureFor r s .«fragment_count»
+  place-among = omega (arith, picture-length known, place-within (fragmentOf s) (heldFragments (pictureFor r s)))
+
+  pub clear-behind : all isNothing (drop (pictureFor r s .«fragment_count») (cond (starts r s) noFragments (r .fragments))) ≡ true
+  clear-behind = rw (← picture-array r s) (picture-unused r s (known .well-formed))
+
+  pub put-among : padded (insertAt (place (fragmentOf s) (heldFragments (pictureFor r s))) (fragmentOf s) (take (pictureFor r s .«fragment_count») (cond (starts r s) noFragments (r .fragments)))) ≡ padded (insert (fragmentOf s) (heldFragments (pictureFor r s)))
+  put-among = rw (← picture-array r s)
+
+  pub end-after : cond (isMarked (fragmentOf s)) (stop (fragmentOf s)) (pictureFor r s .end) ≡ endOf (insert (fragmentOf s) (heldFragments (pictureFor r s)))
+  end-after =
+      ap (cond (isMarked (fragmentOf s)) (stop (fragmentOf s))) (picture-end r s (known .well-formed))
+      ∙ sym (end-insert (fragmentOf s) (heldFragments (pictureFor r s)) (picture-in-place r s (known .well-formed) .order) (accepted .clear))
+
+  pub total-after : total (heldFragments (pictureFor r s)) + s .scan .length ≡ total (insert (fragmentOf s) (heldFragments (pictureFor r s)))
+  total-after = omega (arith, total-insert (fragmentOf s) (heldFragments (pictureFor r s)))
+
+  -- what is held and comes fits into 32 bits
+  pub held-small : total (heldFragments (pictureFor r s)) ≤ 65536
+  held-small =
+      let in-place = picture-in-place r s (known .well-formed) in
+      omega (arith, well-formed r (known .well-formed) .room, total-within 0 (r .room) (heldFragments (pictureFor r s)) (in-place .order) (in-place .inside) (omega arith))
+
+  -- the scan data fits where it goes
+  pub written : (area : List ℕ) {after bytes : List ℕ} → length area ≡ r .room → bytes ≡ scanIn p s → after ≡ putAt area (s .offset) bytes → after ≡ put area (s .offset) (scanIn p s)
+  written area lent e w = w ∙ rw e (put-fits area (s .offset) (scanIn p s) (omega (arith, scan-long (r .source) p s (known .read), accepted .fits, picture-room r s)))
+
+-- the flag of a picture with an accepted packet
+pub flag-told : (r : Receiver) (p : List ℕ) (s : Packet) → eqb (taken r p s .whole) 1 ≡ whole (heldFragments (taken r p s))
+unfolding taken
+flag-told r p s = rw (held-padded (insert (fragmentOf s) (heldFragments r))) (told (whole (insert (fragmentOf s) (heldFragments r))))
+  where
+    told : (b : Bool) → eqb (flag b) 1 ≡ b
+    told true = refl
+    told false = refl

@@ -1,0 +1,181 @@
+-- What holds of every step. Assumes nothing.
+use Prim.Native.Nat.{ℕ, _≤_, _<_}
+use mathlib.Core.Bool.{Bool, true, false}
+use mathlib.Core.List.{List, [], _∷_}
+use mathlib.Core.Path.{_≡_, refl, ap, _∙_}
+use native.Mathlib.Omega.{arith}
+use borrow.Author.Tests.{eqb-true, eq-eqb}
+use lib.Dec.{ltb, eqb}
+use lib.ListN.{length}
+use Rattle.fragments.specs.Array.{held-padded, unused-padded}
+use Rattle.fragments.specs.Clash.{isMarked, clashes, in-place-insert, start-insert}
+use Rattle.fragments.specs.Fragments.{stop}
+use Rattle.fragments.specs.Held.{total, endOf, whole, Whole, is-whole, is-reached}
+use Rattle.fragments.specs.Insertion.{insert, length-insert}
+use Rattle.laws.specs.Put.{length-put}
+use Rattle.laws.specs.Truth.{split, and-false}
+use Rattle.replies.specs.Checks.{judged, _when_, refused-by}
+use Rattle.replies.specs.Reply
+use Rattle.replies.specs.declared.Judged.{Judged}
+use Rattle.replies.specs.declared.Judged.the-variants.{Passed, Refused}
+use Rattle.state.specs.Receiver.{heldFragments, headerOf}
+use Rattle.state.specs.WellFormed.{flag, wellFormed, WellFormed, well-formed, is-well-formed, startHeld, one-held}
+use Rattle.state.specs.declared.Receiver.{Receiver}
+use Rattle.wire.specs.Field.{Bytes}
+use Rattle.wire.specs.Lawful.{isLawful, is-lawful}
+use Rattle.wire.specs.Readable.{Readable, read-packet, read-refused, scan-long}
+use Rattle.wire.specs.Reading.{reading, scanIn}
+use Rattle.wire.specs.declared.Header.{Header}
+use Rattle.wire.specs.declared.Packet.{Packet}
+use Rattle.wire.specs.declared.Reading.{Reading}
+use Rattle.wire.specs.declared.Reading.the-variants as Answer
+use Rattle.receiver.specs.FirstPacket.{isBare, kept-after-well, tables-after-right}
+use Rattle.receiver.specs.Picture.{starts, pictureFor, picture-begun, picture-room, picture-well-formed}
+use Rattle.receiver.specs.Step.{leave, take, decision, taken, held, answering, received, areaAfter}
+use Rattle.receiver.specs.Time.{not-older}
+use Rattle.receiver.specs.Verdict.{fragmentOf, isUnlike, checks, verdict, Accepted, accepted}
+
+-- A packet that is taken, and what is known of it.
+pub record Taken (r : Receiver) (area p : List ℕ) : Type 0 where
+  pub packet : Packet
+  pub well-formed : wellFormed r ≡ true
+  pub lent : length area ≡ r .room
+  pub read : reading (r .source) p ≡ Answer.Said packet
+  pub accepted : Accepted (pictureFor r packet) packet
+  pub decided : decision r area p ≡ take packet
+
+module _ (r : Receiver) (area p : List ℕ) where
+  -- a call leaves all as it is, with a reply from 2 on, or takes its packet
+  pub by-decision : {P : Type 0} → ((n : ℕ) → 2 ≤ n → decision r area p ≡ leave n → P) → (Taken r area p → P) → P
+  unfolding decision
+  by-decision {P} leaves takes = split (wellFormed r)
+      (λ w. split (eqb (length area) (r .room))
+      (λ l. by-reading w l (reading (r .source) p) refl)
+      (λ l. leaves Reply.area-not-room (omega arith) (rw (w, l))))
+      (λ w. leaves Reply.not-well-formed (omega arith) (rw w))
+    where
+      by-verdict : wellFormed r ≡ true → eqb (length area) (r .room) ≡ true → (s : Packet) → reading (r .source) p ≡ Answer.Said s → (j : Judged) → verdict r area p s ≡ j → P
+      by-verdict w l s e Passed v = takes (record {
+        packet = s;
+        well-formed = w;
+        lent = eqb-true (length area) (r .room) l;
+        read = e;
+        accepted = accepted (pictureFor r s) area p s v;
+        decided = rw (w, l, e, v);
+      })
+      by-verdict w l s e (Refused n) v = leaves n (refused-by (λ (n : ℕ). 2 ≤ n) (checks (pictureFor r s) area p s) (omega arith) v) (rw (w, l, e, v))
+
+      by-reading : wellFormed r ≡ true → eqb (length area) (r .room) ≡ true → (a : Reading) → reading (r .source) p ≡ a → P
+      by-reading w l (Answer.Refused n) e = leaves n (omega (arith, read-refused (r .source) p e)) (rw (w, l, e))
+      by-reading w l (Answer.Said s) e = by-verdict w l s e (verdict r area p s) refl
+
+  pub leave-number : {n : ℕ} → decision r area p ≡ leave n → 2 ≤ n
+  leave-number {n} e = by-decision
+      (λ m two d. let same : m ≡ n = cc in omega arith)
+      (λ t. absurd (let z : _≡_ {A = ℕ} 0 1 = cc in omega arith))
+
+  -- the reply to a packet that is taken tells whether the picture is whole with it
+  pub reply-taken : Taken r area p → received r area p .answer .reply ≡ flag (whole (heldFragments (received r area p .receiver)))
+  unfolding received
+  reply-taken t = rw (t .decided)
+
+  -- so it is 0 or 1, and nothing else gets these
+  pub reply-small : Taken r area p → received r area p .answer .reply < 2
+  reply-small t = rw (reply-taken t) (small (whole (heldFragments (received r area p .receiver))))
+    where
+      small : (b : Bool) → flag b < 2
+      small true = omega arith
+      small false = omega arith
+
+  pub taken-when : received r area p .answer .reply < 2 → Taken r area p
+  unfolding received
+  taken-when h = by-decision (λ n two d. absurd (omega (arith, rw d at h))) (λ t. t)
+
+  -- a refusal, and again, hand back the receiver and the area
+  pub left : 2 ≤ received r area p .answer .reply → (received r area p .receiver ≡ r) × (areaAfter r area p ≡ area)
+  unfolding received areaAfter
+  left h = by-decision (λ n two d. rw d (refl, refl)) (λ t. absurd (omega (arith, reply-small t)))
+
+  -- the reply carries the sum of the held lengths afterwards, and 0 where the receiver is not well formed
+  pub held-sum : wellFormed r ≡ true → received r area p .answer .held ≡ total (heldFragments (received r area p .receiver))
+  unfolding received held
+  held-sum w = by-decision (λ n two d. rw (d, w)) (λ t. rw (t .decided))
+
+  pub not-well-formed : wellFormed r ≡ false → received r area p ≡ answering Reply.not-well-formed 0 r
+  unfolding received decision held
+  not-well-formed w = rw (w, w)
+
+  -- 1 means whole, and 0 not yet
+  pub told-whole : received r area p .answer .reply ≡ Reply.whole → Whole (heldFragments (received r area p .receiver))
+  told-whole e =
+      let fs = heldFragments (received r area p .receiver) in
+      split (whole fs) (λ w. is-whole fs w) (λ w. absurd (omega (arith, rw w at (reply-taken (taken-when (omega arith))))))
+
+  pub whole-told : Taken r area p → Whole (heldFragments (received r area p .receiver)) → received r area p .answer .reply ≡ Reply.whole
+  whole-told t w =
+      let fs = heldFragments (received r area p .receiver) in
+      reply-taken t ∙ rw (is-reached (endOf fs) (total fs) (λ z. omega arith) (w .sum))
+
+  pub told-held : received r area p .answer .reply ≡ Reply.held → Whole (heldFragments (received r area p .receiver)) → ⊥
+  told-held e w = omega (arith, whole-told (taken-when (omega arith)) w)
+
+-- "For a packet that starts a picture, 23, 2, 25 and 26 cannot arise."
+pub starting : (r : Receiver) (area p : List ℕ) (s : Packet) → starts r s ≡ true → verdict r area p s ≡ judged (Reply.beyond when ltb (r .room) (stop (fragmentOf s)) ∷ Reply.bare when isBare (r .kept) s ∷ [])
+unfolding judged isUnlike clashes
+starting r area p s e =
+    let h = s .header in
+    rw (
+      picture-begun r s e,
+      not-older (s .time),
+      eq-eqb (h .kind) (h .kind) refl,
+      eq-eqb (h .q) (h .q) refl,
+      eq-eqb (h .width) (h .width) refl,
+      eq-eqb (h .height) (h .height) refl,
+      eq-eqb (h .interval) (h .interval) refl,
+      and-false (isMarked (fragmentOf s)),
+    )
+    (split (ltb (r .room) (stop (fragmentOf s))) (λ b. rw b) (λ b. rw b))
+
+-- what an accepted packet brings goes among the fragments, and the picture stays well formed with it
+module _ (r : Receiver) (p : List ℕ) (s : Packet) where
+  pub held-taken : heldFragments (taken r p s) ≡ insert (fragmentOf s) (heldFragments r)
+  unfolding taken
+  held-taken = held-padded (insert (fragmentOf s) (heldFragments r))
+
+  taken-well-formed : WellFormed r → Readable p s → Accepted r s → WellFormed (taken r p s)
+  unfolding taken
+  taken-well-formed w read a =
+      let f = fragmentOf s in
+      let fs = heldFragments r in
+      let after = insert f fs in
+      record {
+        room = w .room;
+        count = rw (length-insert f fs) (a .few);
+        in-place = rw (held-padded after) (in-place-insert (r .room) f fs (w .in-place) (a .clear) (read .scan) (read .marker) (a .fits));
+        unused = unused-padded after;
+        picture = one-held (r .time) (length after) (headerOf r) ∙ (ap isLawful (a .alike) ∙ is-lawful (s .header) (read .header));
+        end = rw (held-padded after);
+        tables = rw (held-padded after, start-insert f fs (read .scan), q) (tables-after-right p s read (r .kept) (w .kept) (a .supplied) (startHeld fs) (r .tables) (rw q at (w .tables)));
+        kept = kept-after-well p s read (r .kept) (w .kept);
+        whole = rw (held-padded after);
+      }
+    where
+      q : r .q ≡ s .header .q
+      q = ap (λ (h : Header). h .q) (a .alike)
+
+module _ (r : Receiver) (area p : List ℕ) where
+  pub keeps-well-formed : Bytes p → wellFormed r ≡ true → wellFormed (received r area p .receiver) ≡ true
+  unfolding received
+  keeps-well-formed bytes w = by-decision r area p
+      (λ n two d. rw d w)
+      (λ t. let s = t .packet in
+      let read = read-packet (r .source) p s (t .read) bytes in
+      let v = pictureFor r s in
+      rw (t .decided) (is-well-formed (taken v p s) (taken-well-formed v p s (well-formed v (picture-well-formed r s w (read .header))) read (t .accepted))))
+
+  pub area-long : length (areaAfter r area p) ≡ length area
+  unfolding areaAfter
+  area-long = by-decision r area p
+      (λ n two d. rw d)
+      (λ t. let s = t .packet in
+      rw (t .decided) (length-put area (s .offset) (scanIn p s) (omega (arith, t .accepted .fits, t .lent, picture-room r s, scan-long (r .source) p s (t .read)))))

@@ -1,0 +1,95 @@
+// The receiver as an accepted packet leaves it.
+ghost use Prim.Native.Nat.{_+_, _≤_, _<_, _^_};
+ghost use mathlib.Core.Bool.{cond, true};
+ghost use mathlib.Core.Path.{_≡_};
+ghost use lib.ListN.{length, take, drop};
+ghost use Rattle.fragments.specs.Array.{isNothing, padded};
+ghost use Rattle.fragments.specs.Clash.{isMarked};
+ghost use Rattle.fragments.specs.Fragments.{stop};
+ghost use Rattle.fragments.specs.Insertion.{place};
+ghost use Rattle.laws.specs.All.{all};
+ghost use Rattle.laws.specs.Insert.{insertAt};
+ghost use Rattle.state.specs.Receiver.{heldFragments, noFragments};
+ghost use Rattle.receiver.specs.Known.{Known, numbers};
+ghost use Rattle.receiver.specs.Picture.{starts, pictureFor};
+ghost use Rattle.receiver.specs.Step as Step;
+ghost use Rattle.receiver.specs.Verdict.{Accepted, fragmentOf};
+use crate::first_packet::kept_after;
+use crate::first_packet::tables_after;
+use crate::judge::fragment_of;
+use crate::picture::Picture;
+use fragments::Fragment;
+use state::Receiver;
+use wire::Packet;
+
+// Its picture with the packet's fragment at its place, and with the tables that the packet gives it.
+pub(crate) fn taken(
+    receiver: Receiver,
+    picture: Picture,
+    packet: &[u8],
+    said: Packet,
+    at: usize,
+) -> Receiver
+    requires { ⌜ Known receiver (now packet) said × Accepted (pictureFor receiver said) said ⌝ }
+    requires { ⌜ picture ≡ numbers (starts receiver said) (pictureFor receiver said) ⌝ }
+    requires { ⌜ at ≡ place (fragmentOf said) (heldFragments (pictureFor receiver said)) ⌝ }
+    ensures { λ r. ⌜ r ≡ Step.taken (pictureFor receiver said) (now (packet .entry)) said ⌝ }
+{
+    let f = fragment_of(said);
+    let count = picture.count + 1;
+    let held = picture.held as u64 + f.length as u64;
+    let end = end_with(picture.end, f);
+    let fragments = receiver.fragments;
+    let tables = receiver.tables;
+    let kept = receiver.kept;
+    Receiver {
+        source: receiver.source,
+        room: receiver.room,
+        picture: 1,
+        time: picture.time,
+        kind: picture.header.kind,
+        q: picture.header.q,
+        width: picture.header.width,
+        height: picture.header.height,
+        interval: picture.header.interval,
+        end,
+        whole: state::whole_flag(end, held),
+        fragment_count: count,
+        fragments: fragments_with(fragments, picture.begun, picture.count, at, f),
+        tables: tables_after(tables, picture.begun, kept, packet, said),
+        kept: kept_after(kept, packet, said),
+    }
+}
+
+// The end with one more fragment: its own, if it has the marker, and else what it was.
+fn end_with(end: u32, f: Fragment) -> u32
+    requires { ⌜ stop f < 2 ^ 32 ⌝ }
+    ensures { λ r. ⌜ r ≡ cond (isMarked f) (stop f) end ⌝ }
+{
+    if f.marker == 1 {
+        f.offset + f.length
+    } else {
+        end
+    }
+}
+
+// The fragments with one more; a picture that the packet begins had none.
+fn fragments_with(
+    fragments: [Fragment; 64],
+    begun: bool,
+    count: u32,
+    at: usize,
+    f: Fragment,
+) -> [Fragment; 64]
+    requires { ⌜ (count < 64) × (at ≤ count) ⌝ }
+    requires { ⌜ all isNothing (drop count (cond begun noFragments fragments)) ≡ true ⌝ }
+    ensures { λ r. ⌜ r ≡ padded (insertAt at f (take count (cond begun noFragments fragments))) ⌝ }
+{
+    let nothing = Fragment {
+        offset: 0,
+        length: 0,
+        marker: 0,
+    };
+    let held = if begun { [nothing; 64] } else { fragments };
+    fragments::insert(held, count, at, f)
+}
