@@ -8,7 +8,7 @@ use lib.ListN.{getD, replicate}
 use Rattle.fragments.specs.declared.Fragment.{Fragment}
 use Rattle.laws.specs.Spelled.{spelled}
 use Rattle.laws.specs.Within.{within}
-use Rattle.receiver.specs.Time.{ahead, isNewer, isOlder}
+use Rattle.receiver.specs.Time.{ahead, isNewer, isBehind}
 use Rattle.replies.specs.Checks.{judged}
 use Rattle.replies.specs.declared.Judged.the-variants.{Passed, Refused}
 use Rattle.sender.specs.Cuts.{capacity, cuts}
@@ -55,7 +55,7 @@ pub record BothSides : Type 0 where
   pub across-2^32 : isNewer 0 4294967295 ≡ true
   pub half-way-less-1 : isNewer 2147483647 0 ≡ true
   pub half-way : isNewer 2147483648 0 ≡ false
-  pub half-way-past : isOlder 2147483648 0 ≡ true
+  pub half-way-past : isBehind 2147483648 0 ≡ true
 
 pub both-sides : BothSides
 unfolding lumaAt chromaAt zigzag inZigzag scale made scaled tablesOf cuts capacity restartHeader tableHeader spelled restartsOf tableSource within judged isLawful ahead

@@ -25,7 +25,7 @@ isMarked f = eqb (f .marker) 1
 abbrev pub isKnown : List Fragment → Bool
 isKnown fs = ltb 0 (endOf fs)
 
--- g has a byte where f ends, or behind
+-- g ends behind f, so that, of 1 byte or more, it has a byte where f ends or behind
 abbrev pub endsBehind : Fragment → Fragment → Bool
 endsBehind f g = ltb (stop f) (stop g)
 
@@ -36,14 +36,6 @@ clashes f fs =
     || isKnown fs && ltb (endOf fs) (stop f)
     || isMarked f && isKnown fs
     || isMarked f && any (endsBehind f) fs
-
--- The same by what the fragment in front of its place, the end and the place tell.
-unfoldable pub nearClashes : Fragment → Bool → ℕ → ℕ → ℕ → Bool
-nearClashes f shares end at count =
-    shares
-    || ltb 0 end && ltb end (stop f)
-    || isMarked f && ltb 0 end
-    || isMarked f && ltb at count
 
 -- To clash with none, as what has to hold.
 pub record Clear (f : Fragment) (fs : List Fragment) : Type 0 where
@@ -78,6 +70,14 @@ module _ (f : Fragment) (fs : List Fragment) where
     where
       inside : (isKnown fs && ltb (endOf fs) (stop f)) ≡ false
       inside = split (isKnown fs) (λ k. rw (k, le-ltb (endOf fs) (stop f) (c .within (ltb-true 0 (endOf fs) k)))) (λ k. rw k)
+
+-- the same as the code asks it: by what the one in front of its place, the end and the place tell
+unfoldable pub nearClashes : Fragment → Bool → ℕ → ℕ → ℕ → Bool
+nearClashes f shares end at count =
+    shares
+    || ltb 0 end && ltb end (stop f)
+    || isMarked f && ltb 0 end
+    || isMarked f && ltb at count
 
 module _ (f : Fragment) (fs : List Fragment) (o : InOrder 0 fs) where
   -- where no byte is shared, one ends behind it exactly where one is behind its place

@@ -1,6 +1,6 @@
 -- What the pass over the fragments tells of a packet for the picture that it is for. Assumes nothing.
 use Prim.Native.Nat.{ℕ}
-use mathlib.Core.Bool.{Bool, _&&_}
+use mathlib.Core.Bool.{_&&_}
 use mathlib.Core.List.{List}
 use mathlib.Core.Path.{_≡_, refl, sym, ap, _∙_}
 use native.Mathlib.Omega.{arith}
@@ -19,7 +19,7 @@ use Rattle.wire.specs.Readable.{scan-some}
 use Rattle.wire.specs.declared.Packet.{Packet}
 use Rattle.receiver.specs.Known.{Known}
 use Rattle.receiver.specs.Picture.{pictureFor, by-picture, picture-count, picture-in-place, picture-end}
-use Rattle.receiver.specs.Verdict.{fragmentOf, bringsSame, isAgain}
+use Rattle.receiver.specs.Verdict.{fragmentOf, sameContents, isAgain}
 
 module _ (r : Receiver) (s : Packet) where
   -- its fragments are the first of the receiver's, and a begun picture has none of them
@@ -27,8 +27,8 @@ module _ (r : Receiver) (s : Packet) where
   picture-fragments = by-picture r s (λ (v : Receiver). take (v .«fragment_count») (r .fragments) ≡ heldFragments v) refl refl
 
   -- and since nothing is held of a begun picture, its tables are never asked for
-  pub again-by : (area p : List ℕ) → isAgain (pictureFor r s) area p s ≡ (any (alike (fragmentOf s)) (heldFragments (pictureFor r s)) && bringsSame area p s (r .tables))
-  again-by area p = by-picture r s (λ (v : Receiver). isAgain v area p s ≡ (any (alike (fragmentOf s)) (heldFragments v) && bringsSame area p s (r .tables))) refl refl
+  pub again-by : (area p : List ℕ) → isAgain (pictureFor r s) area p s ≡ (any (alike (fragmentOf s)) (heldFragments (pictureFor r s)) && sameContents area p s (r .tables))
+  again-by area p = by-picture r s (λ (v : Receiver). isAgain v area p s ≡ (any (alike (fragmentOf s)) (heldFragments v) && sameContents area p s (r .tables))) refl refl
 
 module _ {r : Receiver} {p : List ℕ} {s : Packet} (known : Known r p s) where
   pub picture-length : length (heldFragments (pictureFor r s)) ≡ pictureFor r s .«fragment_count»

@@ -6,16 +6,15 @@ use mathlib.Core.Path.{_≡_, refl, sym, ap, _∙_}
 use native.Mathlib.Omega.{arith}
 use lib.Dec.{eqb}
 use lib.ListN.{length, take, drop}
-use Rattle.slices.specs.Slices.{putAt, put-fits}
 use Rattle.fragments.specs.Array.{isNothing, padded, held-padded}
 use Rattle.fragments.specs.Clash.{isMarked, end-insert}
 use Rattle.fragments.specs.Fragments.{stop}
 use Rattle.fragments.specs.Held.{total, endOf, whole, total-within}
 use Rattle.fragments.specs.Insertion.{place, insert, place-within, length-insert, total-insert}
-use Rattle.fragments.specs.declared.Fragment.{Fragment}
 use Rattle.laws.specs.All.{all}
 use Rattle.laws.specs.Insert.{insertAt}
 use Rattle.laws.specs.Put.{put}
+use Rattle.slices.specs.Slices.{putAt, put-fits}
 use Rattle.state.specs.Receiver.{heldFragments, noFragments}
 use Rattle.state.specs.WellFormed.{flag, well-formed}
 use Rattle.state.specs.declared.Receiver.{Receiver}

@@ -2,22 +2,21 @@
 use Prim.Native.Nat.{ℕ, _≤_, _<_}
 use mathlib.Core.Bool.{Bool, true, false}
 use mathlib.Core.List.{List, [], _∷_}
-use mathlib.Core.Path.{_≡_, refl, ap, _∙_}
+use mathlib.Core.Path.{_≡_, refl, sym, ap, _∙_}
 use native.Mathlib.Omega.{arith}
-use borrow.Author.Tests.{eqb-true, eq-eqb}
-use lib.Dec.{ltb, eqb}
+use borrow.Author.Tests.{eqb-true, eq-eqb, ne-eqb}
+use lib.Dec.{eqb}
 use lib.ListN.{length}
 use Rattle.fragments.specs.Array.{held-padded, unused-padded}
 use Rattle.fragments.specs.Clash.{isMarked, clashes, in-place-insert, start-insert}
-use Rattle.fragments.specs.Fragments.{stop}
 use Rattle.fragments.specs.Held.{total, endOf, whole, Whole, is-whole, is-reached}
 use Rattle.fragments.specs.Insertion.{insert, length-insert}
-use Rattle.laws.specs.Put.{length-put}
+use Rattle.laws.specs.Put.{put, length-put}
 use Rattle.laws.specs.Truth.{split, and-false}
 use Rattle.replies.specs.Checks.{judged, _when_, refused-by}
 use Rattle.replies.specs.Reply
-use Rattle.replies.specs.declared.Judged.{Judged}
 use Rattle.replies.specs.declared.Judged.the-variants.{Passed, Refused}
+use Rattle.replies.specs.declared.Judged.{Judged}
 use Rattle.state.specs.Receiver.{heldFragments, headerOf}
 use Rattle.state.specs.WellFormed.{flag, wellFormed, WellFormed, well-formed, is-well-formed, startHeld, one-held}
 use Rattle.state.specs.declared.Receiver.{Receiver}
@@ -27,13 +26,15 @@ use Rattle.wire.specs.Readable.{Readable, read-packet, read-refused, scan-long}
 use Rattle.wire.specs.Reading.{reading, scanIn}
 use Rattle.wire.specs.declared.Header.{Header}
 use Rattle.wire.specs.declared.Packet.{Packet}
-use Rattle.wire.specs.declared.Reading.{Reading}
 use Rattle.wire.specs.declared.Reading.the-variants as Answer
+use Rattle.wire.specs.declared.Reading.{Reading}
 use Rattle.receiver.specs.FirstPacket.{isBare, kept-after-well, tables-after-right}
-use Rattle.receiver.specs.Picture.{starts, pictureFor, picture-begun, picture-room, picture-well-formed}
-use Rattle.receiver.specs.Step.{leave, take, decision, taken, held, answering, received, areaAfter}
-use Rattle.receiver.specs.Time.{not-older}
-use Rattle.receiver.specs.Verdict.{fragmentOf, isUnlike, checks, verdict, Accepted, accepted}
+use Rattle.receiver.specs.Picture.{starts, pictureFor, picture-begun, picture-source, picture-room, picture-well-formed}
+use Rattle.receiver.specs.Step.Decision.{leave, accept}
+use Rattle.receiver.specs.Step.{decision, judgedRead, taken, held, answering, tookIn, received, areaAfter}
+use Rattle.receiver.specs.Time.{not-behind}
+use Rattle.receiver.specs.Verdict.{fragmentOf, isUnlike, isBeyond, checks, verdict, Accepted, accepted}
+use Rattle.receiver.specs.declared.Received.{Received}
 
 -- A packet that is taken, and what is known of it.
 pub record Taken (r : Receiver) (area p : List ℕ) : Type 0 where
@@ -42,7 +43,7 @@ pub record Taken (r : Receiver) (area p : List ℕ) : Type 0 where
   pub lent : length area ≡ r .room
   pub read : reading (r .source) p ≡ Answer.Said packet
   pub accepted : Accepted (pictureFor r packet) packet
-  pub decided : decision r area p ≡ take packet
+  pub decided : decision r area p ≡ accept packet
 
 module _ (r : Receiver) (area p : List ℕ) where
   -- a call leaves all as it is, with a reply from 2 on, or takes its packet
@@ -69,6 +70,23 @@ module _ (r : Receiver) (area p : List ℕ) where
       by-reading w l (Answer.Refused n) e = leaves n (omega (arith, read-refused (r .source) p e)) (rw (w, l, e))
       by-reading w l (Answer.Said s) e = by-verdict w l s e (verdict r area p s) refl
 
+  -- what is decided, one check after the other
+  pub other-room : wellFormed r ≡ true → (length area ≡ r .room → ⊥) → decision r area p ≡ leave Reply.area-not-room
+  unfolding decision
+  other-room w h = rw (w, ne-eqb (length area) (r .room) h)
+
+  pub read-first : wellFormed r ≡ true → length area ≡ r .room → decision r area p ≡ judgedRead r area p (reading (r .source) p)
+  unfolding decision
+  read-first w e = rw (w, eq-eqb (length area) (r .room) e)
+
+  pub when-left : {n : ℕ} → decision r area p ≡ leave n → (received r area p ≡ answering n (held r) r) × (areaAfter r area p ≡ area)
+  unfolding received areaAfter
+  when-left d = rw d (refl, refl)
+
+  pub when-accepted : {s : Packet} → decision r area p ≡ accept s → (received r area p ≡ tookIn (taken (pictureFor r s) p s)) × (areaAfter r area p ≡ put area (s .offset) (scanIn p s))
+  unfolding received areaAfter
+  when-accepted d = rw d (refl, refl)
+
   pub leave-number : {n : ℕ} → decision r area p ≡ leave n → 2 ≤ n
   leave-number {n} e = by-decision
       (λ m two d. let same : m ≡ n = cc in omega arith)
@@ -92,18 +110,18 @@ module _ (r : Receiver) (area p : List ℕ) where
   taken-when h = by-decision (λ n two d. absurd (omega (arith, rw d at h))) (λ t. t)
 
   -- a refusal, and again, hand back the receiver and the area
-  pub left : 2 ≤ received r area p .answer .reply → (received r area p .receiver ≡ r) × (areaAfter r area p ≡ area)
+  pub handed-back : 2 ≤ received r area p .answer .reply → (received r area p .receiver ≡ r) × (areaAfter r area p ≡ area)
   unfolding received areaAfter
-  left h = by-decision (λ n two d. rw d (refl, refl)) (λ t. absurd (omega (arith, reply-small t)))
+  handed-back h = by-decision (λ n two d. rw d (refl, refl)) (λ t. absurd (omega (arith, reply-small t)))
 
   -- the reply carries the sum of the held lengths afterwards, and 0 where the receiver is not well formed
   pub held-sum : wellFormed r ≡ true → received r area p .answer .held ≡ total (heldFragments (received r area p .receiver))
   unfolding received held
   held-sum w = by-decision (λ n two d. rw (d, w)) (λ t. rw (t .decided))
 
-  pub not-well-formed : wellFormed r ≡ false → received r area p ≡ answering Reply.not-well-formed 0 r
+  pub answers-9 : wellFormed r ≡ false → received r area p ≡ answering Reply.not-well-formed 0 r
   unfolding received decision held
-  not-well-formed w = rw (w, w)
+  answers-9 w = rw (w, w)
 
   -- 1 means whole, and 0 not yet
   pub told-whole : received r area p .answer .reply ≡ Reply.whole → Whole (heldFragments (received r area p .receiver))
@@ -120,13 +138,13 @@ module _ (r : Receiver) (area p : List ℕ) where
   told-held e w = omega (arith, whole-told (taken-when (omega arith)) w)
 
 -- "For a packet that starts a picture, 23, 2, 25 and 26 cannot arise."
-pub starting : (r : Receiver) (area p : List ℕ) (s : Packet) → starts r s ≡ true → verdict r area p s ≡ judged (Reply.beyond when ltb (r .room) (stop (fragmentOf s)) ∷ Reply.bare when isBare (r .kept) s ∷ [])
+pub starting : (r : Receiver) (area p : List ℕ) (s : Packet) → starts r s ≡ true → verdict r area p s ≡ judged (Reply.beyond when isBeyond r s ∷ Reply.bare when isBare (r .kept) s ∷ [])
 unfolding judged isUnlike clashes
 starting r area p s e =
     let h = s .header in
     rw (
       picture-begun r s e,
-      not-older (s .time),
+      not-behind (s .time),
       eq-eqb (h .kind) (h .kind) refl,
       eq-eqb (h .q) (h .q) refl,
       eq-eqb (h .width) (h .width) refl,
@@ -134,7 +152,7 @@ starting r area p s e =
       eq-eqb (h .interval) (h .interval) refl,
       and-false (isMarked (fragmentOf s)),
     )
-    (split (ltb (r .room) (stop (fragmentOf s))) (λ b. rw b) (λ b. rw b))
+    (split (isBeyond r s) (λ b. rw b) (λ b. rw b))
 
 -- what an accepted packet brings goes among the fragments, and the picture stays well formed with it
 module _ (r : Receiver) (p : List ℕ) (s : Packet) where
@@ -153,7 +171,7 @@ module _ (r : Receiver) (p : List ℕ) (s : Packet) where
         count = rw (length-insert f fs) (a .few);
         in-place = rw (held-padded after) (in-place-insert (r .room) f fs (w .in-place) (a .clear) (read .scan) (read .marker) (a .fits));
         unused = unused-padded after;
-        picture = one-held (r .time) (length after) (headerOf r) ∙ (ap isLawful (a .alike) ∙ is-lawful (s .header) (read .header));
+        picture = one-held (r .time) (length after) (headerOf r) ∙ (ap isLawful (a .like) ∙ is-lawful (s .header) (read .header));
         end = rw (held-padded after);
         tables = rw (held-padded after, start-insert f fs (read .scan), q) (tables-after-right p s read (r .kept) (w .kept) (a .supplied) (startHeld fs) (r .tables) (rw q at (w .tables)));
         kept = kept-after-well p s read (r .kept) (w .kept);
@@ -161,7 +179,7 @@ module _ (r : Receiver) (p : List ℕ) (s : Packet) where
       }
     where
       q : r .q ≡ s .header .q
-      q = ap (λ (h : Header). h .q) (a .alike)
+      q = ap (λ (h : Header). h .q) (a .like)
 
 module _ (r : Receiver) (area p : List ℕ) where
   pub keeps-well-formed : Bytes p → wellFormed r ≡ true → wellFormed (received r area p .receiver) ≡ true
@@ -179,3 +197,37 @@ module _ (r : Receiver) (area p : List ℕ) where
       (λ n two d. rw d)
       (λ t. let s = t .packet in
       rw (t .decided) (length-put area (s .offset) (scanIn p s) (omega (arith, t .accepted .fits, t .lent, picture-room r s, scan-long (r .source) p s (t .read)))))
+
+-- source and room stay, and so the area is as long as the room in the next call, too
+module _ (r : Receiver) (area p : List ℕ) where
+  pub source-stays : received r area p .receiver .source ≡ r .source
+  unfolding received taken
+  source-stays = by-decision r area p (λ n two d. rw d) (λ t. rw (t .decided) (picture-source r (t .packet)))
+
+  pub room-stays : received r area p .receiver .room ≡ r .room
+  unfolding received taken
+  room-stays = by-decision r area p (λ n two d. rw d) (λ t. rw (t .decided) (picture-room r (t .packet)))
+
+  -- and 9 and 8 are answered to nothing else
+  pub record Replied : Type 0 where
+    pub not-9 : received r area p .answer .reply ≡ Reply.not-well-formed → ⊥
+    pub not-8 : received r area p .answer .reply ≡ Reply.area-not-room → ⊥
+
+  pub replied : wellFormed r ≡ true → length area ≡ r .room → Replied
+  replied w l = record { not-9 = λ e. go Reply.not-well-formed (omega arith) (omega arith) e; not-8 = λ e. go Reply.area-not-room (omega arith) (omega arith) e }
+    where
+      go : (m : ℕ) → 2 < m → m < 10 → received r area p .answer .reply ≡ m → ⊥
+      go m low high e = by-reading (reading (r .source) p) refl
+        where
+          told : (n : ℕ) → decision r area p ≡ leave n → n ≡ m
+          told n d = sym (ap (λ (x : Received). x .answer .reply) (when-left r area p d .0)) ∙ e
+
+          by-verdict : (s : Packet) → reading (r .source) p ≡ Answer.Said s → (j : Judged) → verdict r area p s ≡ j → ⊥
+          by-verdict s a Passed v =
+              let d : decision r area p ≡ accept s = read-first r area p w l ∙ rw (a, v) in
+              by-decision r area p (λ n two d′. let z : _≡_ {A = ℕ} 0 1 = cc in omega arith) (λ t. omega (arith, reply-small r area p t))
+          by-verdict s a (Refused n) v = refused-by (λ (n : ℕ). (n ≡ m) → ⊥) (checks (pictureFor r s) area p s) (omega arith) v (told n (read-first r area p w l ∙ rw (a, v)))
+
+          by-reading : (a : Reading) → reading (r .source) p ≡ a → ⊥
+          by-reading (Answer.Refused n) a = omega (arith, read-refused (r .source) p a, told n (read-first r area p w l ∙ rw a))
+          by-reading (Answer.Said s) a = by-verdict s a (verdict r area p s) refl

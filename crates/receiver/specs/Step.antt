@@ -26,19 +26,14 @@ use Rattle.receiver.specs.Picture.{pictureFor}
 use Rattle.receiver.specs.Verdict.{fragmentOf, verdict}
 use Rattle.receiver.specs.declared.Received.{Received}
 
--- What a call decides: to leave all as it is and answer a reply, or to take what the packet says.
+-- What a call decides: to leave all as it is and answer a reply, or to accept what the packet says.
 pub data Decision : Type 0 where
   leave : ℕ → Decision
-  take : Packet → Decision
+  accept : Packet → Decision
 
 abbrev pub ruled : Judged → Packet → Decision
-ruled Passed s = take s
+ruled Passed s = accept s
 ruled (Refused n) s = leave n
-
--- The number of the reader's refusal.
-abbrev pub refusalOf : Reading → ℕ
-refusalOf (Answer.Refused n) = n
-refusalOf (Answer.Said s) = 0
 
 abbrev pub judgedRead : Receiver → List ℕ → List ℕ → Reading → Decision
 judgedRead r area p (Answer.Refused n) = leave n
@@ -51,7 +46,7 @@ decision r area p =
     (cond (not (eqb (length area) (r .room))) (leave Reply.area-not-room)
     (judgedRead r area p (reading (r .source) p)))
 
--- A picture with these fragments, tables and kept tables.
+-- A receiver that holds these fragments of its picture and these tables, with this store.
 abbrev pub holding : Receiver → List Fragment → List ℕ → Kept → Receiver
 holding r fs tables kept = record {
   source = r .source;
@@ -71,7 +66,7 @@ holding r fs tables kept = record {
   kept = kept;
 }
 
--- A picture with what an accepted packet brings put in.
+-- The same with what an accepted packet brings.
 unfoldable pub taken : Receiver → List ℕ → Packet → Receiver
 taken r p s = holding r (insert (fragmentOf s) (heldFragments r)) (tablesAfter (r .tables) (r .kept) p s) (keptAfter (r .kept) p s)
 
@@ -88,12 +83,12 @@ tookIn r = answering (cond (whole (heldFragments r)) Reply.whole Reply.held) (to
 
 abbrev pub receivedBy : Decision → Receiver → List ℕ → Received
 receivedBy (leave n) r p = answering n (held r) r
-receivedBy (take s) r p = tookIn (taken (pictureFor r s) p s)
+receivedBy (accept s) r p = tookIn (taken (pictureFor r s) p s)
 
 -- "An accepted packet writes its data at its offset and nothing elsewhere in the area."
 abbrev pub areaBy : Decision → List ℕ → List ℕ → List ℕ
 areaBy (leave n) area p = area
-areaBy (take s) area p = put area (s .offset) (scanIn p s)
+areaBy (accept s) area p = put area (s .offset) (scanIn p s)
 
 unfoldable pub received : Receiver → List ℕ → List ℕ → Received
 received r area p = receivedBy (decision r area p) r p

@@ -16,8 +16,8 @@ abbrev pub isNewer : ℕ → ℕ → Bool
 isNewer t h = within 1 (2 ^ 31 - 1) (ahead t h)
 
 -- "older, exactly 2^31 away"
-abbrev pub isOlder : ℕ → ℕ → Bool
-isOlder t h = leb (2 ^ 31) (ahead t h)
+abbrev pub isBehind : ℕ → ℕ → Bool
+isBehind t h = leb (2 ^ 31) (ahead t h)
 
 -- ---- laws
 
@@ -41,5 +41,5 @@ module _ (t : ℕ) where
   pub not-newer : isNewer t t ≡ false
   not-newer = rw ahead-none (is-under 1 (2 ^ 31 - 1) 0 (omega arith))
 
-  pub not-older : isOlder t t ≡ false
-  not-older = rw ahead-none (lt-leb (2 ^ 31) 0 (omega arith))
+  pub not-behind : isBehind t t ≡ false
+  not-behind = rw ahead-none (lt-leb (2 ^ 31) 0 (omega arith))

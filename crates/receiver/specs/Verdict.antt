@@ -24,32 +24,46 @@ use Rattle.wire.specs.declared.Header.{Header}
 use Rattle.wire.specs.declared.Packet.{Packet}
 use Rattle.receiver.specs.FirstPacket.{brings, isBare}
 use Rattle.receiver.specs.Picture.{pictureFor}
-use Rattle.receiver.specs.Time.{isOlder}
+use Rattle.receiver.specs.Time.{isBehind}
 
 -- The part of the scan that a packet carries.
 abbrev pub fragmentOf : Packet → Fragment
 fragmentOf s = record { offset = s .offset; length = s .scan .length; marker = s .marker }
 
+-- "past: older, exactly 2^31 away, or that picture is whole"
+abbrev pub isPast : Receiver → Packet → Bool
+isPast r s = isBehind (s .time) (r .time) || eqb (r .whole) 1
+
 -- "type, Q, width, height or interval unlike the picture's"
 unfoldable pub isUnlike : Header → Header → Bool
 isUnlike h g = not (eqb (h .kind) (g .kind) && eqb (h .q) (g .q) && eqb (h .width) (g .width) && eqb (h .height) (g .height) && eqb (h .interval) (g .interval))
 
--- "same offset, length, marker and bytes, and any tables it brings equal the picture's"
+-- "offset plus length beyond the room"
+abbrev pub isBeyond : Receiver → Packet → Bool
+isBeyond r s = ltb (r .room) (stop (fragmentOf s))
+
+-- any tables that it brings equal these
 abbrev pub agrees : List ℕ → Packet → List ℕ → Bool
 agrees p s tables = not (brings s) || same (tablesIn p s) tables
 
-abbrev pub bringsSame : List ℕ → List ℕ → Packet → List ℕ → Bool
-bringsSame area p s tables = same (bytesOf area (fragmentOf s)) (scanIn p s) && agrees p s tables
+-- its bytes are those that the area has there, and its tables, if any, are these
+abbrev pub sameContents : List ℕ → List ℕ → Packet → List ℕ → Bool
+sameContents area p s tables = same (bytesOf area (fragmentOf s)) (scanIn p s) && agrees p s tables
 
+-- "Again means same offset, length, marker and bytes, and any tables it brings equal the picture's."
 abbrev pub isAgain : Receiver → List ℕ → List ℕ → Packet → Bool
-isAgain r area p s = any (alike (fragmentOf s)) (heldFragments r) && bringsSame area p s (r .tables)
+isAgain r area p s = any (alike (fragmentOf s)) (heldFragments r) && sameContents area p s (r .tables)
+
+-- "64 fragments held"
+abbrev pub isFull : Receiver → Bool
+isFull r = leb 64 (length (heldFragments r))
 
 -- The checks of a packet p that says s, against a picture and the area: 22, 23, 24,
 abbrev pub pictureChecks : Receiver → Packet → List Check
 pictureChecks r s =
-    Reply.past when (isOlder (s .time) (r .time) || eqb (r .whole) 1)
+    Reply.past when isPast r s
     ∷ Reply.unlike when isUnlike (headerOf r) (s .header)
-    ∷ Reply.beyond when ltb (r .room) (stop (fragmentOf s))
+    ∷ Reply.beyond when isBeyond r s
     ∷ []
 
 -- 2 or 25, 26, 27
@@ -57,7 +71,7 @@ abbrev pub placeChecks : Receiver → List ℕ → List ℕ → Packet → List 
 placeChecks r area p s =
     Reply.again when isAgain r area p s
     ∷ Reply.clash when clashes (fragmentOf s) (heldFragments r)
-    ∷ Reply.full when leb 64 (length (heldFragments r))
+    ∷ Reply.full when isFull r
     ∷ Reply.bare when isBare (r .kept) s
     ∷ []
 
@@ -72,9 +86,9 @@ verdict r area p s = judged (checks (pictureFor r s) area p s)
 
 -- what is known of a packet that is accepted for a picture
 pub record Accepted (r : Receiver) (s : Packet) : Type 0 where
-  pub in-time : isOlder (s .time) (r .time) ≡ false
+  pub in-time : isBehind (s .time) (r .time) ≡ false
   pub not-whole : eqb (r .whole) 1 ≡ false
-  pub alike : headerOf r ≡ s .header
+  pub like : headerOf r ≡ s .header
   pub fits : stop (fragmentOf s) ≤ r .room
   pub clear : Clear (fragmentOf s) (heldFragments r)
   pub few : length (heldFragments r) < 64
@@ -99,12 +113,12 @@ same-header h g e =
 pub accepted : (r : Receiver) (area p : List ℕ) (s : Packet) → judged (checks r area p s) ≡ Passed → Accepted r s
 accepted r area p s e =
     let t = all-hold (checks r area p s) e in
-    let past = or-none (isOlder (s .time) (r .time)) (eqb (r .whole) 1) (t .0) in
+    let past = or-none (isBehind (s .time) (r .time)) (eqb (r .whole) 1) (t .0) in
     let place = t .1 .1 .1 .1 in
     record {
       in-time = past .0;
       not-whole = past .1;
-      alike = same-header (headerOf r) (s .header) (t .1 .0);
+      like = same-header (headerOf r) (s .header) (t .1 .0);
       fits = ltb-false (r .room) (stop (fragmentOf s)) (t .1 .1 .0);
       clear = clear (fragmentOf s) (heldFragments r) (place .0);
       few = leb-false 64 (length (heldFragments r)) (place .1 .0);

@@ -2,10 +2,11 @@
 ghost use Prim.Native.Nat.{_+_, _≤_, _<_, _^_};
 ghost use mathlib.Core.Bool.{cond, true};
 ghost use mathlib.Core.Path.{_≡_};
-ghost use lib.ListN.{length, take, drop};
+ghost use lib.ListN.{take, drop};
 ghost use Rattle.fragments.specs.Array.{isNothing, padded};
 ghost use Rattle.fragments.specs.Clash.{isMarked};
 ghost use Rattle.fragments.specs.Fragments.{stop};
+ghost use Rattle.fragments.specs.Held.{total};
 ghost use Rattle.fragments.specs.Insertion.{place};
 ghost use Rattle.laws.specs.All.{all};
 ghost use Rattle.laws.specs.Insert.{insertAt};
@@ -17,27 +18,29 @@ ghost use Rattle.receiver.specs.Verdict.{Accepted, fragmentOf};
 use crate::first_packet::kept_after;
 use crate::first_packet::tables_after;
 use crate::judge::fragment_of;
-use crate::picture::Picture;
+use crate::picture::Numbers;
 use fragments::Fragment;
 use state::Receiver;
 use wire::Packet;
 
-// Its picture with the packet's fragment at its place, and with the tables that the packet gives it.
+// The receiver with the packet's fragment at its place in the picture, which then has `held` scan bytes, and with the tables that the
+// packet gives it.
 pub(crate) fn taken(
     receiver: Receiver,
-    picture: Picture,
+    picture: Numbers,
     packet: &[u8],
     said: Packet,
     at: usize,
+    held: u32,
 ) -> Receiver
     requires { ⌜ Known receiver (now packet) said × Accepted (pictureFor receiver said) said ⌝ }
     requires { ⌜ picture ≡ numbers (starts receiver said) (pictureFor receiver said) ⌝ }
     requires { ⌜ at ≡ place (fragmentOf said) (heldFragments (pictureFor receiver said)) ⌝ }
+    requires { ⌜ held ≡ total (heldFragments (pictureFor receiver said)) + said .scan .length ⌝ }
     ensures { λ r. ⌜ r ≡ Step.taken (pictureFor receiver said) (now (packet .entry)) said ⌝ }
 {
     let f = fragment_of(said);
     let count = picture.count + 1;
-    let held = picture.held as u64 + f.length as u64;
     let end = end_with(picture.end, f);
     let fragments = receiver.fragments;
     let tables = receiver.tables;
@@ -53,7 +56,7 @@ pub(crate) fn taken(
         height: picture.header.height,
         interval: picture.header.interval,
         end,
-        whole: state::whole_flag(end, held),
+        whole: state::whole_flag(end, held as u64),
         fragment_count: count,
         fragments: fragments_with(fragments, picture.begun, picture.count, at, f),
         tables: tables_after(tables, picture.begun, kept, packet, said),

@@ -7,11 +7,11 @@ ghost use Rattle.fragments.specs.Clash.{nearClashes};
 ghost use Rattle.replies.specs.Checks.{judged};
 ghost use Rattle.receiver.specs.Known.{Known, numbers, placedBy};
 ghost use Rattle.receiver.specs.Picture.{starts, pictureFor};
-ghost use Rattle.receiver.specs.Time.{isOlder};
+ghost use Rattle.receiver.specs.Time.{isBehind};
 ghost use Rattle.receiver.specs.Verdict as Spec;
 use crate::first_packet::is_bare;
-use crate::picture::Picture;
-use crate::time::is_older;
+use crate::picture::Numbers;
+use crate::time::is_behind;
 use fragments::Fragment;
 use fragments::Placed;
 use replies::AGAIN;
@@ -27,13 +27,13 @@ use wire::Packet;
 
 // A reply that leaves all as it is, or the place at which the fragment goes.
 pub(crate) enum Verdict {
-    Refused(u32),
+    Left(u32),
     Accepted(usize),
 }
 
 pub(crate) fn judge(
     receiver: Receiver,
-    picture: Picture,
+    picture: Numbers,
     area: &[u8],
     packet: &[u8],
     said: Packet,
@@ -43,21 +43,21 @@ pub(crate) fn judge(
     ensures { λ r. ⌜ r ≡ placedBy receiver said (Spec.verdict receiver (now (area .entry)) (now (packet .entry)) said) ⌝ }
 {
     if is_past(said.time, picture.time, picture.whole) {
-        return Verdict::Refused(PAST);
+        return Verdict::Left(PAST);
     }
     if is_unlike(picture.header, said.header) {
-        return Verdict::Refused(UNLIKE);
+        return Verdict::Left(UNLIKE);
     }
     if (receiver.room as u64) < said.offset as u64 + said.scan.length as u64 {
-        return Verdict::Refused(BEYOND);
+        return Verdict::Left(BEYOND);
     }
     judge_place(receiver, picture, area, packet, said)
 }
 
 fn is_past(time: u32, held: u32, whole: u32) -> bool
-    ensures { λ r. ⌜ r ≡ (isOlder time held || eqb whole 1) ⌝ }
+    ensures { λ r. ⌜ r ≡ (isBehind time held || eqb whole 1) ⌝ }
 {
-    if is_older(time, held) {
+    if is_behind(time, held) {
         return true;
     }
     whole == 1
@@ -84,7 +84,7 @@ fn is_unlike(held: Header, header: Header) -> bool
 // The checks against the fragments held: one pass over them tells the place, and what stands in front of it.
 fn judge_place(
     receiver: Receiver,
-    picture: Picture,
+    picture: Numbers,
     area: &[u8],
     packet: &[u8],
     said: Packet,
@@ -98,17 +98,17 @@ fn judge_place(
     let placed = fragments::place(fragments, picture.count, f);
     let tables = receiver.tables;
     if is_again(placed.same, tables, area, packet, said) {
-        return Verdict::Refused(AGAIN);
+        return Verdict::Left(AGAIN);
     }
     if clashes(f, placed, picture.end, picture.count) {
-        return Verdict::Refused(CLASH);
+        return Verdict::Left(CLASH);
     }
     if 64 <= picture.count {
-        return Verdict::Refused(FULL);
+        return Verdict::Left(FULL);
     }
     let kept = receiver.kept;
     if is_bare(kept, said) {
-        return Verdict::Refused(BARE);
+        return Verdict::Left(BARE);
     }
     Verdict::Accepted(placed.at)
 }
@@ -125,9 +125,9 @@ pub(crate) fn fragment_of(said: Packet) -> Fragment
     }
 }
 
-// Whether a packet, of which a fragment alike is held or not, is an exact repeat.
+// Whether a packet is an exact repeat: `alike` tells that its offset, length and marker are those of one held.
 fn is_again(alike: bool, tables: [u8; 128], area: &[u8], packet: &[u8], said: Packet) -> bool
-    ensures { λ r. ⌜ r ≡ (alike && Spec.bringsSame (now (area .entry)) (now (packet .entry)) said tables) ⌝ }
+    ensures { λ r. ⌜ r ≡ (alike && Spec.sameContents (now (area .entry)) (now (packet .entry)) said tables) ⌝ }
 {
     if !alike {
         return false;
@@ -159,7 +159,7 @@ fn clashes(f: Fragment, placed: Placed, end: u32, count: u32) -> bool
         return true;
     }
     if f.marker == 1 {
-        return has_end_behind(placed.at, end, count);
+        return rules_out_marker(placed.at, end, count);
     }
     if end == 0 {
         return false;
@@ -168,7 +168,7 @@ fn clashes(f: Fragment, placed: Placed, end: u32, count: u32) -> bool
 }
 
 // Whether the end is known, or a fragment stands behind a place.
-fn has_end_behind(at: usize, end: u32, count: u32) -> bool
+fn rules_out_marker(at: usize, end: u32, count: u32) -> bool
     ensures { λ r. ⌜ r ≡ (ltb 0 end || ltb at count) ⌝ }
 {
     if end != 0 {

@@ -14,14 +14,14 @@ ghost use Rattle.laws.specs.Put.{put};
 ghost use Rattle.replies.specs.Reply as Reply;
 ghost use Rattle.state.specs.Receiver.{heldFragments};
 ghost use Rattle.wire.specs.Reading.{scanIn};
-ghost use Rattle.receiver.specs.Known.{Known, numbers};
+ghost use Rattle.receiver.specs.Known.{Known, numbers, refusalOf};
 ghost use Rattle.receiver.specs.Picture.{starts, pictureFor};
 ghost use Rattle.receiver.specs.Step as Step;
 ghost use Rattle.receiver.specs.Verdict.{Accepted, fragmentOf};
 use crate::change::taken;
 use crate::judge::Verdict;
 use crate::judge::judge;
-use crate::picture::Picture;
+use crate::picture::Numbers;
 use crate::picture::picture_for;
 use replies::AREA_NOT_ROOM;
 use replies::HELD;
@@ -56,7 +56,7 @@ pub fn receive(receiver: Receiver, area: &mut [u8], packet: &[u8]) -> Received
     };
     let picture = picture_for(receiver, held, said);
     match judge(receiver, picture, area, packet, said) {
-        Verdict::Refused(number) => unchanged(number, held, receiver),
+        Verdict::Left(number) => unchanged(number, held, receiver),
         Verdict::Accepted(at) => accept(receiver, picture, area, packet, said, at),
     }
 }
@@ -72,7 +72,7 @@ fn unchanged(reply: u32, held: u32, receiver: Receiver) -> Received
 
 // The number of the reader's refusal, and 0 where there is none.
 fn refusal(reading: Reading) -> u32
-    ensures { λ r. ⌜ r ≡ Step.refusalOf reading ⌝ }
+    ensures { λ r. ⌜ r ≡ refusalOf reading ⌝ }
 {
     match reading {
         Reading::Refused(number) => number,
@@ -83,7 +83,7 @@ fn refusal(reading: Reading) -> u32
 // The step with an accepted packet, whose fragment goes to a place of its picture.
 fn accept(
     receiver: Receiver,
-    picture: Picture,
+    picture: Numbers,
     area: &mut [u8],
     packet: &[u8],
     said: Packet,
@@ -96,13 +96,11 @@ fn accept(
     ensures { λ _. ⌜ now (area .exit) ≡ put (now (area .entry)) (said .offset) (scanIn (now (packet .entry)) said) ⌝ }
 {
     slices::put(wire::scan(packet, said), said.offset as usize, area);
-    let next = taken(receiver, picture, packet, said, at);
-    let held = picture.held + said.scan.length as u32;
+    let sum = picture.held + said.scan.length as u32;
+    let next = taken(receiver, picture, packet, said, at, sum);
+    let reply = reply_with(next.whole);
     Received {
-        answer: Answer {
-            reply: reply_with(next.whole),
-            held,
-        },
+        answer: Answer { reply, held: sum },
         receiver: next,
     }
 }

@@ -13,7 +13,7 @@ use wire::Header;
 use wire::Packet;
 
 // Its numbers, without its fragments and tables, which are long to hand on: those of the receiver, or none where it is begun.
-pub(crate) struct Picture {
+pub(crate) struct Numbers {
     pub(crate) begun: bool,
     pub(crate) time: u32,
     pub(crate) header: Header,
@@ -23,13 +23,13 @@ pub(crate) struct Picture {
     pub(crate) held: u32,
 }
 
-pub(crate) fn picture_for(receiver: Receiver, held: u32, said: Packet) -> Picture
+pub(crate) fn picture_for(receiver: Receiver, held: u32, said: Packet) -> Numbers
     requires { ⌜ held ≡ total (heldFragments receiver) ⌝ }
     ensures { λ r. ⌜ r ≡ numbers (Spec.starts receiver said) (Spec.pictureFor receiver said) ⌝ }
 {
     if starts(receiver.picture, receiver.time, said.time) {
         let header = said.header;
-        return Picture {
+        return Numbers {
             begun: true,
             time: said.time,
             header,
@@ -39,7 +39,7 @@ pub(crate) fn picture_for(receiver: Receiver, held: u32, said: Packet) -> Pictur
             held: 0,
         };
     }
-    Picture {
+    Numbers {
         begun: false,
         time: receiver.time,
         header: Header {

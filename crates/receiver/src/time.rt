@@ -15,8 +15,8 @@ pub(crate) fn is_newer(t: u32, h: u32) -> bool
 }
 
 // Whether t is older than h, or exactly 2^31 away.
-pub(crate) fn is_older(t: u32, h: u32) -> bool
-    ensures { λ r. ⌜ r ≡ Time.isOlder t h ⌝ }
+pub(crate) fn is_behind(t: u32, h: u32) -> bool
+    ensures { λ r. ⌜ r ≡ Time.isBehind t h ⌝ }
 {
     HALF <= std::num::wrapping_sub_u32(t, h)
 }

@@ -113,8 +113,8 @@ fn fresh(source: u32, room: u32) -> Receiver
     }
 }
 
-// Whether a receiver keeps every rule of document 01's "Well formed means", and nothing else; reply 9 is for one that does not.
-// The second clause hands on what the array's type says.
+// How many scan bytes a receiver holds that keeps every rule of document 01's "Well formed means", and nothing else; reply 9 is for one
+// that does not. The second clause hands on what the array's type says.
 pub fn inspect(receiver: Receiver) -> Inspected
     ensures { λ r. ⌜ Inspects receiver r ⌝ }
     ensures { λ _. ⌜ length (receiver .fragments) ≡ 64 ⌝ }

@@ -11,7 +11,7 @@ ghost use lib.ListN.{length};
 ghost use Rattle.laws.specs.Within.{within};
 ghost use Rattle.wire.specs.Kind.{TellsRestarts, arePresent, isNotCarried};
 ghost use Rattle.wire.specs.Lawful.{TellsLawful, hasInterval};
-ghost use Rattle.wire.specs.Reading.{Reads, GivesScan, GivesTables, said, partOf, filledUp};
+ghost use Rattle.wire.specs.Reading.{Reads, GivesScan, GivesTables, said, filledUp};
 ghost use Rattle.wire.specs.Rtp.{Rest};
 ghost use Rattle.wire.specs.Tables.{TellsFull, scanAt};
 ghost use Rattle.wire.specs.TableSource.{TellsSource, isInBand, isAlwaysBrought, isReserved};

@@ -1,9 +1,9 @@
 -- `receiver::accept` meets its contract: the area, then the answer. Assumes nothing.
-use borrow.Author.Needs.{needs}
 use Prim.Native.Nat.{_+_}
 use mathlib.Core.Bool.{Bool, cond}
 use mathlib.Core.Path.{_≡_, ap, _∙_}
 use native.Mathlib.Omega.{arith}
+use borrow.Author.Needs.{needs}
 use denote.Ref.{now}
 use lib.Dec.{eqb}
 use Rattle.fragments.specs.Held.{total, whole}
@@ -14,10 +14,13 @@ use Rattle.wire.specs.Readable.{scan-short}
 use Rattle.receiver.specs.Laws.{held-taken}
 use Rattle.receiver.specs.Picture.{pictureFor}
 use Rattle.receiver.specs.Step.{taken}
-use Rattle.receiver.specs.declared.picture.Picture.{Picture}
+use Rattle.receiver.specs.declared.picture.Numbers.{Numbers}
 use Rattle.receiver.proofs.Taking.{total-after, held-small, written, flag-told}
 use Rattle.receiver.proofs.accept.Statement.{statement}
 use Rattle.receiver.proofs.accept.Tie as tie
+
+sum : (s : tie.Start) → let a = s .args in a .picture .held + a .said .scan .length ≡ total (heldFragments (pictureFor (a .receiver) (a .said))) + a .said .scan .length
+sum s = rw (ap (λ (x : Numbers). x .held) (s .pre .1 .0))
 
 scan-requires : tie.Need-scan-requires
 scan-requires c κs = search needs
@@ -28,20 +31,22 @@ cast-put c = search needs
 put-requires : tie.Need-put-requires
 put-requires c κs = search needs
 
-taken-requires : tie.Need-taken-requires
-taken-requires c κs = search needs
-
-cast-held : tie.Need-cast-held
-cast-held c =
-    let start = c .before .before .before .before .before .before .before .before .before .before in
-    let short = scan-short (start .args .receiver .source) (now (start .args .packet)) (start .args .said) (start .pre .0 .0 .read) in
+cast-sum : tie.Need-cast-sum
+cast-sum c =
+    let s = c .before .before .before .before .before .before .before .before .before in
+    let short = scan-short (s .args .receiver .source) (now (s .args .packet)) (s .args .said) (s .pre .0 .0 .read) in
     omega arith
 
-add-held : tie.Need-add-held
-add-held c =
-    let start = c .before .before .before .before .before .before .before .before .before .before .before in
-    let short = scan-short (start .args .receiver .source) (now (start .args .packet)) (start .args .said) (start .pre .0 .0 .read) in
-    omega (arith, ap (λ (x : Picture). x .held) (start .pre .1 .0), held-small (start .pre .0 .0) (start .pre .1 .1 .0))
+add-sum : tie.Need-add-sum
+add-sum c =
+    let s = c .before .before .before .before .before .before .before .before .before .before in
+    let short = scan-short (s .args .receiver .source) (now (s .args .packet)) (s .args .said) (s .pre .0 .0 .read) in
+    omega (arith, sum s, held-small (s .pre .0 .0) (s .pre .1 .1 .0))
+
+taken-requires : tie.Need-taken-requires
+taken-requires c κs =
+    let s = c .before .before .before .before .before .before .before .before .before .before in
+    ((s .pre .0 .0, s .pre .1 .1 .0), (s .pre .1 .0, (s .pre .1 .1 .1, sum s)))
 
 reply-with-requires : tie.Need-reply-with-requires
 reply-with-requires c κs = search needs
@@ -51,22 +56,21 @@ same-length c = search needs
 
 returns : tie.Need-returns
 returns c =
-    let t = c .before .before .before in
-    let put = t .before .before .before in
-    let start = put .before .before .before .before .before .before in
-    let a = start .args in
-    let known = start .pre .0 .0 in
-    let accepted = start .pre .1 .1 .0 in
+    let t = c .before in
+    let put = t .before .before .before .before .before in
+    let s = put .before .before .before .before .before .before in
+    let a = s .args in
+    let known = s .pre .0 .0 in
+    let accepted = s .pre .1 .1 .0 in
     let v = pictureFor (a .receiver) (a .said) in
     let next = taken v (now (a .packet)) (a .said) in
     let receiver : t .taken .result ≡ next = t .taken .ensures in
-    let held : a .picture .held + a .said .scan .length ≡ total (heldFragments next) =
-    rw (ap (λ (x : Picture). x .held) (start .pre .1 .0), held-taken v (now (a .packet)) (a .said)) (total-after known accepted) in
+    let held : a .picture .held + a .said .scan .length ≡ total (heldFragments next) = rw (sum s, held-taken v (now (a .packet)) (a .said)) (total-after known accepted) in
     let reply : c .reply-with .result ≡ cond (whole (heldFragments next)) Reply.whole Reply.held =
     c .reply-with .ensures
     ∙ ap (λ (x : Receiver). cond (eqb (x .whole) 1) Reply.whole Reply.held) receiver
     ∙ ap (λ (b : Bool). cond b Reply.whole Reply.held) (flag-told v (now (a .packet)) (a .said)) in
-    (cc (receiver, held, reply), written known accepted (now (a .area)) (start .pre .0 .1) (put .before .before .before .scan .ensures) (put .put .ensures))
+    (cc (receiver, held, reply), written known accepted (now (a .area)) (s .pre .0 .1) (put .before .before .before .scan .ensures) (put .put .ensures))
 
 pub accept-spec : {M : Type 1} → statement M
 accept-spec =
@@ -75,9 +79,9 @@ accept-spec =
     scan-requires
     cast-put
     put-requires
+    cast-sum
+    add-sum
     taken-requires
-    cast-held
-    add-held
     reply-with-requires
     same-length
     returns)

@@ -1,27 +1,26 @@
 -- `receiver::receive` meets its contract: by what is decided. Assumes nothing.
-use borrow.Author.Needs.{needs}
 use Prim.Native.Nat.{ℕ}
 use mathlib.Core.Bool.{true}
-use mathlib.Core.List.{List}
 use mathlib.Core.Path.{_≡_, refl, sym, _∙_}
 use native.Mathlib.Omega.{arith}
+use borrow.Author.Needs.{needs}
 use denote.Ref.{now}
-use lib.ListN.{length}
 use Rattle.fragments.specs.Held.{total}
 use Rattle.fragments.specs.Insertion.{place}
-use Rattle.replies.specs.declared.Judged.{Judged}
 use Rattle.replies.specs.declared.Judged.the-variants.{Passed, Refused}
+use Rattle.replies.specs.declared.Judged.{Judged}
 use Rattle.state.specs.Receiver.{heldFragments}
 use Rattle.state.specs.WellFormed.{wellFormed, holds-inspected, not-inspected}
 use Rattle.wire.specs.Reading.{reading}
 use Rattle.wire.specs.declared.Reading.the-variants as Answer
 use Rattle.receiver.specs.Known.{Known, ruledAt}
+use Rattle.receiver.specs.Laws.{other-room, read-first}
 use Rattle.receiver.specs.Picture.{pictureFor}
-use Rattle.receiver.specs.Step.{decision, judgedRead, refusalOf}
-use Rattle.receiver.specs.Step.Decision.{leave, take}
+use Rattle.receiver.specs.Step.Decision.{leave}
+use Rattle.receiver.specs.Step.{decision, judgedRead}
 use Rattle.receiver.specs.Verdict.{fragmentOf, verdict, accepted}
 use Rattle.receiver.specs.declared.judge.Verdict.the-variants as Ruling
-use Rattle.receiver.proofs.Stepping.{not-formed, other-room, read-first, leaves, takes}
+use Rattle.receiver.proofs.Stepping.{not-formed, leaves, accepts}
 use Rattle.receiver.proofs.receive.Statement.{statement}
 use Rattle.receiver.proofs.receive.Tie as tie
 
@@ -49,14 +48,14 @@ passed : (j : Judged) {at n : ℕ} → ruledAt j n ≡ Ruling.Accepted at → (j
 passed Passed e = (refl, cc)
 passed (Refused m) e = absurd (let z : _≡_ {A = ℕ} 0 1 = cc in omega arith)
 
-refused : (j : Judged) (at : ℕ) {n : ℕ} → ruledAt j at ≡ Ruling.Refused n → j ≡ Refused n
+refused : (j : Judged) (at : ℕ) {n : ℕ} → ruledAt j at ≡ Ruling.Left n → j ≡ Refused n
 refused Passed at e = absurd (let z : _≡_ {A = ℕ} 0 1 = cc in omega arith)
 refused (Refused m) at e = cc
 
-accepts : (c : tie.After-at) → let a = held-of (c .before .before .before .before .before .before) .before .before .before .before .before .args in
+passes : (c : tie.After-at) → let a = held-of (c .before .before .before .before .before .before) .before .before .before .before .before .args in
     let s = c .before .before .before .before .before .before .reading .given .0 .0 in
     (verdict (a .receiver) (now (a .area)) (now (a .packet)) s ≡ Passed) × (c .at .given .0 .0 ≡ place (fragmentOf s) (heldFragments (pictureFor (a .receiver) s)))
-accepts c =
+passes c =
     let k = c .before .before .before .before .before .before in
     let a = held-of k .before .before .before .before .before .args in
     passed (verdict (a .receiver) (now (a .area)) (now (a .packet)) (k .reading .given .0 .0)) (sym (c .before .before .judge .ensures) ∙ c .at .given .1)
@@ -137,7 +136,7 @@ accept-requires c κs =
     let t = c .before .before in
     let k = t .before .before .before .before .before .before in
     let a = held-of k .before .before .before .before .before .args in
-    let v = accepts t in
+    let v = passes t in
     ((knows k, k .before .before .before .if1 .left), (t .before .before .before .before .picture-for .ensures, (accepted (pictureFor (a .receiver) (k .reading .given .0 .0)) (now (a .area)) (now (a .packet)) (k .reading .given .0 .0) (v .0), v .1)))
 
 same-length : tie.Need-same-length
@@ -161,7 +160,7 @@ returns-5 c =
     let t = c .before .before .before .before .before in
     let k = t .before .before .before .before .before .before in
     let a = held-of k .before .before .before .before .before .args in
-    takes (a .receiver) (now (a .area)) (now (a .packet)) (k .reading .given .0 .0) (decides k ∙ rw (accepts t .0)) (c .before .before .accept .ensures .0) (c .before .before .accept .ensures .1)
+    accepts (a .receiver) (now (a .area)) (now (a .packet)) (k .reading .given .0 .0) (decides k ∙ rw (passes t .0)) (c .before .before .accept .ensures .0) (c .before .before .accept .ensures .1)
 
 pub receive-spec : {M : Type 1} → statement M
 receive-spec =

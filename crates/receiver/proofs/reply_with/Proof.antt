@@ -1,5 +1,4 @@
 -- `receiver::reply_with` meets its contract. Assumes nothing.
-use borrow.Author.Needs.{needs}
 use borrow.Author.Tests.{eq-eqb, ne-eqb}
 use Rattle.receiver.proofs.reply_with.Statement.{statement}
 use Rattle.receiver.proofs.reply_with.Tie as tie

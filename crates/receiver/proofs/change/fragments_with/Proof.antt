@@ -1,13 +1,12 @@
 -- `receiver::change::fragments_with` meets its contract. Assumes nothing.
-use borrow.Author.Needs.{needs}
-use Rattle.fragments.specs.Fragments.{nothing}
 use mathlib.Core.Bool.{cond}
 use mathlib.Core.Logic.{⊎-elim}
-use mathlib.Core.Path.{_≡_, ap, _∙_}
-use native.Mathlib.Omega.{arith}
+use mathlib.Core.Path.{_≡_, _∙_}
+use borrow.Author.Needs.{needs}
 use borrow.Author.Tests.{lt-ltb, le-leb}
 use lib.ListN.{length, length-replicate}
 use Rattle.fragments.specs.Array.{put-in-padded}
+use Rattle.fragments.specs.Fragments.{nothing}
 use Rattle.state.specs.Receiver.{noFragments}
 use Rattle.receiver.proofs.change.fragments_with.Statement.{statement}
 use Rattle.receiver.proofs.change.fragments_with.Tie as tie

@@ -1,6 +1,6 @@
 -- `receiver::judge::agrees` meets its contract. Assumes nothing.
-use borrow.Author.Needs.{needs}
 use mathlib.Core.Path.{_∙_}
+use borrow.Author.Needs.{needs}
 use borrow.Author.Tests.{eq-eqb, ne-eqb}
 use Rattle.receiver.proofs.judge.agrees.Statement.{statement}
 use Rattle.receiver.proofs.judge.agrees.Tie as tie

@@ -1,8 +1,8 @@
 -- `receiver::judge::clashes` meets its contract: by the four kinds of clash. Assumes nothing.
-use borrow.Author.Needs.{needs}
 use mathlib.Core.Bool.{false, _||_}
 use mathlib.Core.Path.{sym, _∙_}
 use native.Mathlib.Omega.{arith}
+use borrow.Author.Needs.{needs}
 use borrow.Author.Tests.{eq-eqb, ne-eqb, lt-ltb, le-ltb}
 use lib.Dec.{ltb}
 use Rattle.fragments.specs.Clash.{nearClashes}
@@ -15,14 +15,14 @@ returns : tie.Need-returns
 unfolding nearClashes
 returns c = rw (c .if1 .taken)
 
-has-end-behind-requires : tie.Need-has-end-behind-requires
-has-end-behind-requires c κs = search needs
+rules-out-marker-requires : tie.Need-rules-out-marker-requires
+rules-out-marker-requires c κs = search needs
 
 returns-2 : tie.Need-returns-2
 unfolding nearClashes
 returns-2 c =
     let a = c .before .before .before .before .args in
-    c .has-end-behind .ensures
+    c .rules-out-marker .ensures
     ∙ rw (c .before .before .before .if1 .left, eq-eqb (a .f .marker) 1 (c .before .if2 .taken))
     (split (ltb 0 (a .end)) (λ e. rw (e, or-true (ltb (a .end) (stop (a .f))))) (λ e. rw e))
 
@@ -54,7 +54,7 @@ clashes-spec =
     tie.close
     (tie.spec
     returns
-    has-end-behind-requires
+    rules-out-marker-requires
     returns-2
     returns-3
     cast-result

@@ -1,6 +1,6 @@
 -- `receiver::judge::is_again` meets its contract: place, bytes, tables. Assumes nothing.
-use borrow.Author.Needs.{needs}
 use mathlib.Core.Path.{_≡_, sym, _∙_}
+use borrow.Author.Needs.{needs}
 use borrow.Author.Tests.{not-true, not-false}
 use denote.Ref.{now}
 use Rattle.fragments.specs.Fragments.{bytesOf}

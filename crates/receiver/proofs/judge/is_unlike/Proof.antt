@@ -1,9 +1,5 @@
 -- `receiver::judge::is_unlike` meets its contract: field by field. Assumes nothing.
-use borrow.Author.Needs.{needs}
-use mathlib.Core.Bool.{not}
-use mathlib.Core.Path.{sym, ap}
 use borrow.Author.Tests.{eq-eqb, ne-eqb}
-use lib.Dec.{eqb}
 use Rattle.receiver.specs.Verdict.{isUnlike}
 use Rattle.receiver.proofs.judge.is_unlike.Statement.{statement}
 use Rattle.receiver.proofs.judge.is_unlike.Tie as tie

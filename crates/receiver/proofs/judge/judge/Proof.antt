@@ -1,8 +1,8 @@
 -- `receiver::judge::judge` meets its contract: check by check, and then by the place. Assumes nothing.
-use borrow.Author.Needs.{needs}
 use mathlib.Core.Bool.{_||_}
 use mathlib.Core.Path.{_≡_, sym, ap, _∙_}
 use native.Mathlib.Omega.{arith}
+use borrow.Author.Needs.{needs}
 use borrow.Author.Tests.{lt-ltb, le-ltb}
 use denote.Ref.{now}
 use lib.Dec.{eqb}
@@ -11,17 +11,17 @@ use Rattle.replies.specs.Checks.{PastFirst, start, passes, fails}
 use Rattle.state.specs.Receiver.{headerOf}
 use Rattle.wire.specs.Readable.{scan-short}
 use Rattle.receiver.specs.Picture.{pictureFor, picture-room}
-use Rattle.receiver.specs.Time.{isOlder}
+use Rattle.receiver.specs.Time.{isBehind}
 use Rattle.receiver.specs.Verdict.{fragmentOf, isUnlike, checks}
-use Rattle.receiver.specs.declared.picture.Picture.{Picture}
+use Rattle.receiver.specs.declared.picture.Numbers.{Numbers}
 use Rattle.receiver.proofs.judge.judge.Statement.{statement}
 use Rattle.receiver.proofs.judge.judge.Tie as tie
 
-past : (c : tie.After-is-past) → let a = c .before .before .before .args in c .is-past .result ≡ (isOlder (a .said .time) (pictureFor (a .receiver) (a .said) .time) || eqb (pictureFor (a .receiver) (a .said) .whole) 1)
-past c = let same = c .before .before .before .pre .1 in c .is-past .ensures ∙ rw (ap (λ (x : Picture). x .time) same, ap (λ (x : Picture). x .whole) same)
+past : (c : tie.After-is-past) → let a = c .before .before .before .args in c .is-past .result ≡ (isBehind (a .said .time) (pictureFor (a .receiver) (a .said) .time) || eqb (pictureFor (a .receiver) (a .said) .whole) 1)
+past c = let same = c .before .before .before .pre .1 in c .is-past .ensures ∙ rw (ap (λ (x : Numbers). x .time) same, ap (λ (x : Numbers). x .whole) same)
 
 unlike : (c : tie.After-is-unlike) → let a = c .before .before .before .before .before .args in c .is-unlike .result ≡ isUnlike (headerOf (pictureFor (a .receiver) (a .said))) (a .said .header)
-unlike c = c .is-unlike .ensures ∙ ap (λ (x : Picture). isUnlike (x .header) (c .before .before .before .before .before .args .said .header)) (c .before .before .before .before .before .pre .1)
+unlike c = c .is-unlike .ensures ∙ ap (λ (x : Numbers). isUnlike (x .header) (c .before .before .before .before .before .args .said .header)) (c .before .before .before .before .before .pre .1)
 
 past-time : (c : tie.Else1) → let a = c .before .before .before .before .args in PastFirst 1 (checks (pictureFor (a .receiver) (a .said)) (now (a .area)) (now (a .packet)) (a .said))
 past-time c = passes start (sym (past (c .before)) ∙ c .if1 .left)

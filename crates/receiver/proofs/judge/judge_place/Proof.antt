@@ -1,26 +1,25 @@
 -- `receiver::judge::judge_place` meets its contract: check by check, by what the pass tells. Assumes nothing.
-use borrow.Author.Needs.{needs}
 use Prim.Native.Nat.{_<_}
 use mathlib.Core.Path.{_≡_, sym, ap, _∙_}
 use native.Mathlib.Omega.{arith}
+use borrow.Author.Needs.{needs}
 use borrow.Author.Tests.{le-leb, lt-leb}
 use denote.Ref.{now}
-use lib.ListN.{length, drop, take}
+use lib.ListN.{length, take}
 use Rattle.fragments.specs.Array.{placed}
 use Rattle.fragments.specs.Clash.{clashes}
-use Rattle.replies.specs.Checks.{Past, PastFirst, start, passes, fails, none-left}
+use Rattle.replies.specs.Checks.{PastFirst, start, passes, fails, none-left}
 use Rattle.state.specs.Receiver.{heldFragments}
 use Rattle.wire.specs.Readable.{scan-short}
-use Rattle.receiver.specs.Known.{placedBy}
 use Rattle.receiver.specs.Picture.{pictureFor, picture-kept}
-use Rattle.receiver.specs.Verdict.{fragmentOf, isAgain, bringsSame, placeChecks}
-use Rattle.receiver.specs.declared.picture.Picture.{Picture}
+use Rattle.receiver.specs.Verdict.{fragmentOf, isAgain, placeChecks}
+use Rattle.receiver.specs.declared.picture.Numbers.{Numbers}
 use Rattle.receiver.proofs.Placing.{again-by, picture-length, at-place, same-held, clash-told}
 use Rattle.receiver.proofs.judge.judge_place.Statement.{statement}
 use Rattle.receiver.proofs.judge.judge_place.Tie as tie
 
 abbrev counted : (c : tie.After-place) → let a = c .before .before .before .before .before .args in a .picture .count ≡ pictureFor (a .receiver) (a .said) .«fragment_count»
-counted c = ap (λ (x : Picture). x .count) (c .before .before .before .before .before .pre .1)
+counted c = ap (λ (x : Numbers). x .count) (c .before .before .before .before .before .pre .1)
 
 told : (c : tie.After-place) → let a = c .before .before .before .before .before .args in c .place .result ≡ placed (fragmentOf (a .said)) (take (pictureFor (a .receiver) (a .said) .«fragment_count») (a .receiver .fragments))
 told c = c .place .ensures ∙ rw (counted c, c .before .before .fragment-of .ensures)
@@ -38,7 +37,7 @@ clashed c =
     let q = c .before .before .before .before in
     let start = q .before .before .before .before .before in
     c .clashes .ensures
-    ∙ rw (q .before .before .fragment-of .ensures, counted q, ap (λ (x : Picture). x .end) (start .pre .1))
+    ∙ rw (q .before .before .fragment-of .ensures, counted q, ap (λ (x : Numbers). x .end) (start .pre .1))
     (clash-told (start .pre .0) (told q))
 
 few : (c : tie.Else3) → length (heldFragments (pictureFor (c .before .before .before .before .before .before .before .before .before .before .before .before .args .receiver) (c .before .before .before .before .before .before .before .before .before .before .before .before .args .said))) < 64
