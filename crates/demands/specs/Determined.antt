@@ -3,7 +3,7 @@ use Prim.Native.Nat.{ℕ}
 use mathlib.Core.Bool.{Bool}
 use mathlib.Core.List.{List}
 use mathlib.Core.Path.{_≡_, sym, _∙_}
-use Rattle.fragments.specs.Array.{Surveys, Places, PutsIn, TellsClear}
+use Rattle.fragments.specs.Array.{Surveys, Places, PutsIn, HasNone, TellsClear}
 use Rattle.fragments.specs.declared.Fragment.{Fragment}
 use Rattle.fragments.specs.declared.Placed.{Placed}
 use Rattle.fragments.specs.declared.Surveyed.{Surveyed}
@@ -86,7 +86,10 @@ are-same a b t t′ x y = only x y
 pub packet : (p : Picture) (size : ℕ) (s : Stamp) (k : ℕ) (before : List ℕ) (w w′ : Written) (after after′ : List ℕ) → Sends p size s k before w after → Sends p size s k before w′ after′ → (w ≡ w′) × (after ≡ after′)
 packet p size s k before w w′ after after′ a b = writes-determined a b
 
--- `fragments::survey`, `fragments::place`, `fragments::insert` and `fragments::are_clear`
+-- `fragments::survey`, `fragments::place`, `fragments::insert`, `fragments::none` and `fragments::are_clear`
+pub no-fragments : (a a′ : List Fragment) → HasNone a → HasNone a′ → a ≡ a′
+no-fragments a a′ x y = only x y
+
 pub survey : (a : List Fragment) (count : ℕ) (r r′ : Surveyed) → Surveys a count r → Surveys a count r′ → r ≡ r′
 survey a count r r′ x y = only x y
 

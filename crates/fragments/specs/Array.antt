@@ -50,6 +50,13 @@ PutsIn a n i f b = b ≡ cond (ltb n 64 && leb i n) (putIn n i f a) a
 abbrev pub isNothing : Fragment → Bool
 isNothing f = alike f nothing
 
+-- The outcome of `none`.
+unfoldable pub noFragments : List Fragment
+noFragments = replicate 64 nothing
+
+abbrev pub HasNone : List Fragment → Type 0
+HasNone a = a ≡ noFragments
+
 -- Fragments in the array: behind them its places are unused.
 unfoldable pub padded : List Fragment → List Fragment
 padded fs = fs ++ replicate (64 - length fs) nothing

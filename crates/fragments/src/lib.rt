@@ -5,7 +5,7 @@ mod pair;
 ghost use Prim.Native.Nat.{min};
 ghost use mathlib.Core.Path.{_≡_};
 ghost use lib.ListN.{length};
-ghost use Rattle.fragments.specs.Array.{Surveys, Places, PutsIn, TellsClear};
+ghost use Rattle.fragments.specs.Array.{Surveys, Places, PutsIn, HasNone, TellsClear};
 ghost use Rattle.fragments.specs.Fragments as Fragments;
 use pair::alike;
 use pair::follows;
@@ -107,6 +107,14 @@ pub fn insert(fragments: [Fragment; 64], count: u32, at: usize, f: Fragment) -> 
     }
     a[at] = f;
     a
+}
+
+// The array with all places unused.
+pub fn none() -> [Fragment; 64]
+    ensures { λ r. ⌜ HasNone r ⌝ }
+{
+    let unused = nothing();
+    [unused; 64]
 }
 
 // Whether the places behind the first `count` are unused: all their numbers 0.

@@ -6,7 +6,7 @@ use mathlib.Core.Path.{_≡_, refl, sym, ap, _∙_}
 use native.Mathlib.Omega.{arith}
 use lib.Dec.{eqb}
 use lib.ListN.{length, take, drop}
-use Rattle.fragments.specs.Array.{isNothing, padded, held-padded}
+use Rattle.fragments.specs.Array.{isNothing, noFragments, padded, held-padded}
 use Rattle.fragments.specs.Clash.{isMarked, end-insert}
 use Rattle.fragments.specs.Fragments.{stop}
 use Rattle.fragments.specs.Held.{total, endOf, whole, total-within}
@@ -15,7 +15,7 @@ use Rattle.laws.specs.All.{all}
 use Rattle.laws.specs.Insert.{insertAt}
 use Rattle.laws.specs.Put.{put}
 use Rattle.slices.specs.Slices.{putAt, put-fits}
-use Rattle.state.specs.Receiver.{heldFragments, noFragments}
+use Rattle.state.specs.Receiver.{heldFragments}
 use Rattle.state.specs.WellFormed.{flag, well-formed}
 use Rattle.state.specs.declared.Receiver.{Receiver}
 use Rattle.wire.specs.Readable.{scan-long}

@@ -4,14 +4,14 @@ use mathlib.Core.Bool.{Bool, true, false, cond, _||_}
 use mathlib.Core.Path.{_≡_, refl, _∙_}
 use native.Mathlib.Omega.{arith}
 use lib.Dec.{eqb}
-use Rattle.fragments.specs.Array.{isNothing}
+use Rattle.fragments.specs.Array.{isNothing, noFragments}
 use Rattle.fragments.specs.Held.{endOf, reached}
 use Rattle.fragments.specs.Order.{InPlace}
 use Rattle.fragments.specs.Shared.{alike}
 use Rattle.kept.specs.Kept.{blank}
 use Rattle.laws.specs.All.{all}
 use Rattle.laws.specs.Truth.{split}
-use Rattle.state.specs.Receiver.{heldFragments, unused, noFragments}
+use Rattle.state.specs.Receiver.{heldFragments, unused}
 use Rattle.state.specs.WellFormed.{tablesGiven, wellFormed, well-formed, is-well-formed, one-held}
 use Rattle.state.specs.declared.Receiver.{Receiver}
 use Rattle.wire.specs.Lawful.{Lawful, is-lawful}

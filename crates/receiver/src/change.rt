@@ -3,14 +3,14 @@ ghost use Prim.Native.Nat.{_+_, _≤_, _<_, _^_};
 ghost use mathlib.Core.Bool.{cond, true};
 ghost use mathlib.Core.Path.{_≡_};
 ghost use lib.ListN.{take, drop};
-ghost use Rattle.fragments.specs.Array.{isNothing, padded};
+ghost use Rattle.fragments.specs.Array.{isNothing, noFragments, padded};
 ghost use Rattle.fragments.specs.Clash.{isMarked};
 ghost use Rattle.fragments.specs.Fragments.{stop};
 ghost use Rattle.fragments.specs.Held.{total};
 ghost use Rattle.fragments.specs.Insertion.{place};
 ghost use Rattle.laws.specs.All.{all};
 ghost use Rattle.laws.specs.Insert.{insertAt};
-ghost use Rattle.state.specs.Receiver.{heldFragments, noFragments};
+ghost use Rattle.state.specs.Receiver.{heldFragments};
 ghost use Rattle.receiver.specs.Known.{Known, numbers};
 ghost use Rattle.receiver.specs.Picture.{starts, pictureFor};
 ghost use Rattle.receiver.specs.Step as Step;
@@ -88,11 +88,6 @@ fn fragments_with(
     requires { ⌜ all isNothing (drop count (cond begun noFragments fragments)) ≡ true ⌝ }
     ensures { λ r. ⌜ r ≡ padded (insertAt at f (take count (cond begun noFragments fragments))) ⌝ }
 {
-    let nothing = Fragment {
-        offset: 0,
-        length: 0,
-        marker: 0,
-    };
-    let held = if begun { [nothing; 64] } else { fragments };
+    let held = if begun { fragments::none() } else { fragments };
     fragments::insert(held, count, at, f)
 }

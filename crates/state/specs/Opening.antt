@@ -3,12 +3,13 @@ use Prim.Native.Nat.{ℕ}
 use mathlib.Core.Bool.{true, false, cond}
 use mathlib.Core.Path.{_≡_, refl}
 use native.Mathlib.Omega.{arith}
+use Rattle.fragments.specs.Array.{noFragments}
 use Rattle.fragments.specs.Held.{reached}
 use Rattle.fragments.specs.Shared.{alike}
 use Rattle.kept.specs.Kept.{blank, none-well}
 use Rattle.laws.specs.Within.{Between, is-within, is-under}
 use Rattle.replies.specs.Reply
-use Rattle.state.specs.Receiver.{noFragments, fresh}
+use Rattle.state.specs.Receiver.{fresh}
 use Rattle.state.specs.WellFormed.{isRoom, isUnset, pictureRight, tablesGiven, wellFormed, is-well-formed}
 use Rattle.state.specs.declared.Opened.{Opened}
 use Rattle.state.specs.declared.Receiver.{Receiver}

@@ -1,8 +1,8 @@
 -- What a receiver holds. Assumes nothing.
 use Prim.Native.Nat.{ℕ}
 use mathlib.Core.List.{List}
-use lib.ListN.{take, drop, replicate}
-use Rattle.fragments.specs.Fragments.{nothing}
+use lib.ListN.{take, drop}
+use Rattle.fragments.specs.Array.{noFragments}
 use Rattle.fragments.specs.declared.Fragment.{Fragment}
 use Rattle.wire.specs.declared.Header.{Header}
 use Rattle.kept.specs.Kept.{blank, none}
@@ -18,9 +18,6 @@ unused r = drop (r .«fragment_count») (r .fragments)
 -- its picture's header fields
 abbrev pub headerOf : Receiver → Header
 headerOf r = record { kind = r .kind; q = r .q; width = r .width; height = r .height; interval = r .interval }
-
-unfoldable pub noFragments : List Fragment
-noFragments = replicate 64 nothing
 
 -- Fresh: no picture, no kept tables, and every number but source and room 0.
 abbrev pub fresh : ℕ → ℕ → Receiver

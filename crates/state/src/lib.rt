@@ -88,11 +88,7 @@ fn is_room(room: u32) -> bool
 fn fresh(source: u32, room: u32) -> Receiver
     ensures { λ r. ⌜ r ≡ fresh source room ⌝ }
 {
-    let nothing = Fragment {
-        offset: 0,
-        length: 0,
-        marker: 0,
-    };
+    let fragments = fragments::none();
     let kept = kept::none();
     Receiver {
         source,
@@ -107,7 +103,7 @@ fn fresh(source: u32, room: u32) -> Receiver
         end: 0,
         whole: 0,
         fragment_count: 0,
-        fragments: [nothing; 64],
+        fragments,
         tables: [0; 128],
         kept,
     }
