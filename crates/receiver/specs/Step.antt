@@ -31,10 +31,12 @@ pub data Decision : Type 0 where
   leave : ℕ → Decision
   accept : Packet → Decision
 
+-- What the checks came to.
 abbrev pub ruled : Judged → Packet → Decision
 ruled Passed s = accept s
 ruled (Refused n) s = leave n
 
+-- The reader's refusal, or the verdict on what was read.
 abbrev pub judgedRead : Receiver → List ℕ → List ℕ → Reading → Decision
 judgedRead r area p (Answer.Refused n) = leave n
 judgedRead r area p (Answer.Said s) = ruled (verdict r area p s) s
@@ -66,7 +68,7 @@ holding r fs tables kept = record {
   kept = kept;
 }
 
--- The same with what an accepted packet brings.
+-- The receiver with what an accepted packet brings: its fragment at its place, and its tables.
 unfoldable pub taken : Receiver → List ℕ → Packet → Receiver
 taken r p s = holding r (insert (fragmentOf s) (heldFragments r)) (tablesAfter (r .tables) (r .kept) p s) (keptAfter (r .kept) p s)
 
@@ -74,13 +76,15 @@ taken r p s = holding r (insert (fragmentOf s) (heldFragments r)) (tablesAfter (
 unfoldable pub held : Receiver → ℕ
 held r = cond (wellFormed r) (total (heldFragments r)) 0
 
+-- What a call gives back: a reply, a count of scan bytes, and a receiver.
 abbrev pub answering : ℕ → ℕ → Receiver → Received
 answering reply n r = record { answer = record { reply = reply; held = n }; receiver = r }
 
--- 1 where the picture is whole with the packet, 0 where it is not yet.
+-- With an accepted packet: 1 where the picture is whole then, 0 where it is not yet.
 abbrev pub tookIn : Receiver → Received
 tookIn r = answering (cond (whole (heldFragments r)) Reply.whole Reply.held) (total (heldFragments r)) r
 
+-- A call that leaves all as it is gives back the receiver that came.
 abbrev pub receivedBy : Decision → Receiver → List ℕ → Received
 receivedBy (leave n) r p = answering n (held r) r
 receivedBy (accept s) r p = tookIn (taken (pictureFor r s) p s)
