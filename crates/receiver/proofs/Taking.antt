@@ -23,7 +23,7 @@ use Rattle.wire.specs.Reading.{scanIn}
 use Rattle.wire.specs.declared.Packet.{Packet}
 use Rattle.receiver.specs.Known.{Known}
 use Rattle.receiver.specs.Picture.{starts, pictureFor, picture-room, picture-array, picture-in-place, picture-end, picture-unused}
-use Rattle.receiver.specs.Step.{taken}
+use Rattle.receiver.specs.Step.{taken, answering}
 use Rattle.receiver.specs.Verdict.{Accepted, fragmentOf}
 use Rattle.receiver.proofs.Placing.{picture-length}
 
@@ -63,6 +63,10 @@ module _ {r : Receiver} {p : List ℕ} {s : Packet} (known : Known r p s) (accep
   -- the scan data fits where it goes
   pub written : (area : List ℕ) {after bytes : List ℕ} → length area ≡ r .room → bytes ≡ scanIn p s → after ≡ putAt area (s .offset) bytes → after ≡ put area (s .offset) (scanIn p s)
   written area lent e w = w ∙ rw e (put-fits area (s .offset) (scanIn p s) (omega (arith, scan-long (r .source) p s (known .read), accepted .fits, picture-room r s)))
+
+-- a reply, a count and a receiver that are the same
+pub same-answer : {reply reply′ n n′ : ℕ} {r r′ : Receiver} → reply ≡ reply′ → n ≡ n′ → r ≡ r′ → answering reply n r ≡ answering reply′ n′ r′
+same-answer a b c = cc
 
 -- the flag of a picture with an accepted packet
 pub flag-told : (r : Receiver) (p : List ℕ) (s : Packet) → eqb (taken r p s .whole) 1 ≡ whole (heldFragments (taken r p s))

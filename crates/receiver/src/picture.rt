@@ -12,7 +12,8 @@ use state::Receiver;
 use wire::Header;
 use wire::Packet;
 
-// Its numbers, without its fragments and tables, which are long to hand on: those of the receiver, or none where it is begun.
+// Its numbers, without its fragments and tables, which are long to hand on: the receiver's, or, where the packet begins it, the packet's
+// own with nothing held.
 pub(crate) struct Numbers {
     pub(crate) begun: bool,
     pub(crate) time: u32,
