@@ -1,8 +1,13 @@
 /* Ljosvark: the C interface of libljosvark.a.
  *
- * Every call has a defined reply for every input. A pointer comes with the length of the memory behind it, which the
- * host owns, lends for the call alone, and touches from nowhere else while the call runs. No call keeps a pointer.
- * Memory of no bytes may be lent as NULL with length 0. A refusal changes no byte of what is lent.
+ * Every call has a defined reply for every input: no number, byte or length is one that the host has to check first.
+ *
+ * Memory. The host owns all of it. A pointer comes with the length of the memory behind it, or points to a struct, and is
+ * lent for the call alone: no call keeps a pointer, and nothing else may touch what is lent while the call runs. What a
+ * call writes may overlap nothing else that is lent with it; what it only reads may overlap what it only reads. Memory of
+ * no bytes may be lent as NULL with length 0. A refusal changes no byte of what is lent.
+ *
+ * There is no other state: calls on different receivers and memory may run at the same time.
  */
 #ifndef LJOSVARK_H
 #define LJOSVARK_H
@@ -14,18 +19,42 @@
 extern "C" {
 #endif
 
-/* The replies. */
+/* The replies, of all calls. The packet's own faults, 10 to 21, and the receiver's, from 22 on, all come from lj_receive. */
 enum {
-    LJ_SUCCESS = 0,          /* done; the length says how many bytes were written */
-    LJ_Q_NOT_MADE = 34,      /* table making: Q is not 1 to 99 */
-    LJ_TABLES_OUTPUT = 35,   /* table making: the output is under 128 bytes */
-    LJ_PARAMETERS = 40,      /* sender: type, Q, width, height or interval outside its limits */
-    LJ_SCAN_LENGTH = 41,     /* sender: the scan is not 1 to 65,536 bytes */
-    LJ_PACKET_SIZE = 42,     /* sender: the packet size is not 192 to 1,472 */
-    LJ_SENT_TABLES = 43,     /* sender: tables missing or unwanted for this Q, not 128 bytes, or with a 0 */
-    LJ_OVER_64_PACKETS = 44, /* sender: the picture needs more than 64 packets of this size */
-    LJ_INDEX_TOO_LARGE = 45, /* sender: the picture has no packet k */
-    LJ_PACKET_OUTPUT = 46    /* sender: the output is shorter than the packet */
+    LJ_SUCCESS = 0,              /* done; where there is a length, it says how many bytes were written */
+    LJ_HELD = 0,                 /* receiver: the packet is taken; the picture is not whole yet */
+    LJ_WHOLE = 1,                /* receiver: the packet is taken and filled the last gap: the picture is whole */
+    LJ_AGAIN = 2,                /* receiver: an exact repeat of a packet that is held; nothing changes */
+    LJ_ROOM_OUTSIDE = 7,         /* opening: the room is not 1 to 65,536 */
+    LJ_AREA_NOT_ROOM = 8,        /* receiver: the area is not as long as the room */
+    LJ_NOT_WELL_FORMED = 9,      /* receiver: its fields contradict each other: it was not opened, or was written over */
+    LJ_TOO_SHORT = 10,           /* packet: shorter than its headers or tables say, or its padding is wrong */
+    LJ_TOO_LONG = 11,            /* packet: over 2,048 bytes */
+    LJ_OTHER_VERSION = 12,       /* packet: the RTP version is not 2 */
+    LJ_OTHER_PAYLOAD = 13,       /* packet: the payload type is not 26, JPEG's */
+    LJ_OTHER_SOURCE = 14,        /* packet: the source (SSRC) is not the receiver's */
+    LJ_OTHER_TYPE = 15,          /* packet: the type is not 0, 1, 64 or 65 */
+    LJ_OTHER_TYPE_SPECIFIC = 16, /* packet: the type-specific byte is not 0 */
+    LJ_Q_RESERVED = 17,          /* packet: Q is 0 or 100 to 127 */
+    LJ_SIDE_ZERO = 18,           /* packet: width or height is 0 */
+    LJ_INTERVAL_ZERO = 19,       /* packet: the restart interval of type 64 or 65 is 0 */
+    LJ_TABLE_RULE = 20,          /* packet: tables of 16 bits, of a length other than 0 and 128, with a 0, or none with Q 255 */
+    LJ_NO_SCAN = 21,             /* packet: no scan data */
+    LJ_PAST = 22,                /* receiver: the picture held is newer, or exactly 2^31 away, or is this one and whole */
+    LJ_UNLIKE = 23,              /* receiver: type, Q, width, height or interval unlike the picture's */
+    LJ_BEYOND = 24,              /* receiver: the scan data would end beyond the room */
+    LJ_CLASH = 25,               /* receiver: contradicts what is held: a byte that is there already, or the picture's end */
+    LJ_FULL = 26,                /* receiver: 64 fragments are held */
+    LJ_BARE = 27,                /* receiver: the first packet brings no tables, and none are kept for its Q */
+    LJ_Q_NOT_MADE = 34,          /* table making: Q is not 1 to 99 */
+    LJ_TABLES_OUTPUT = 35,       /* table making: the output is under 128 bytes */
+    LJ_PARAMETERS = 40,          /* sender: type, Q, width, height or interval outside its limits */
+    LJ_SCAN_LENGTH = 41,         /* sender: the scan is not 1 to 65,536 bytes */
+    LJ_PACKET_SIZE = 42,         /* sender: the packet size is not 192 to 1,472 */
+    LJ_SENT_TABLES = 43,         /* sender: tables missing or unwanted for this Q, not 128 bytes, or with a 0 */
+    LJ_OVER_64_PACKETS = 44,     /* sender: the picture needs more than 64 packets of this size */
+    LJ_INDEX_TOO_LARGE = 45,     /* sender: the picture has no packet k */
+    LJ_PACKET_OUTPUT = 46        /* sender: the output is shorter than the packet */
 };
 
 /* What a call that writes answers: a reply, and the length written, which is 0 with a refusal. */
@@ -33,6 +62,75 @@ typedef struct {
     uint32_t reply;
     uint32_t length;
 } lj_written;
+
+/* What a receiver answers: a reply, and how many scan bytes of its picture it holds afterwards, which is 0 with
+ * LJ_NOT_WELL_FORMED. */
+typedef struct {
+    uint32_t reply;
+    uint32_t held;
+} lj_answer;
+
+/* A part of a scan that is held: `length` bytes from `offset` on; marker is 1 on the last of its picture, and else 0. */
+typedef struct {
+    uint32_t offset;
+    uint32_t length;
+    uint32_t marker;
+} lj_fragment;
+
+/* The last tables received for one Q of 128 to 254, for pictures that bring none; Q 0 and zeros while there are none. */
+typedef struct {
+    uint32_t q;
+    uint8_t tables[128];
+} lj_kept;
+
+/* A receiver: a value like any other, with no pointer in it. It may be copied, kept and gone back to, on the stack or
+ * anywhere else, together with the scan area as it was then; nothing has to be closed. The fields are for reading. A host
+ * that writes to them does no harm but to its picture: every pattern of bits is answered, as LJ_NOT_WELL_FORMED or as what
+ * it says. */
+typedef struct {
+    uint32_t source;            /* the source (SSRC) that it takes packets of */
+    uint32_t room;              /* the length of the scan area */
+    uint32_t picture;           /* 1 while a picture is held, and else 0 */
+    uint32_t time;              /* its time stamp; this and all that follows up to kept is 0 where it is not known or not used */
+    uint32_t kind;              /* its type: 0, 1, 64 or 65 */
+    uint32_t q;
+    uint32_t width;             /* in units of 8 pixels, as is height */
+    uint32_t height;
+    uint32_t interval;          /* the restart interval, in MCUs */
+    uint32_t end;               /* the length of its scan, once the packet with the marker is in */
+    uint32_t whole;             /* 1 once no byte of it is missing, and else 0 */
+    uint32_t fragment_count;
+    lj_fragment fragments[64];  /* those held, in offset order; the places behind them are 0 */
+    uint8_t tables[128];        /* its tables, 64 luma entries and 64 chroma entries in zigzag order, once the first packet is in */
+    lj_kept kept;
+} lj_receiver;
+
+typedef struct {
+    lj_answer answer;
+    lj_receiver receiver;
+} lj_opened;
+
+/* The layout that the archive has. */
+#ifdef __cplusplus
+#define LJ_LAYOUT(holds) static_assert(holds, #holds)
+#else
+#define LJ_LAYOUT(holds) _Static_assert(holds, #holds)
+#endif
+LJ_LAYOUT(sizeof(lj_written) == 8 && offsetof(lj_written, length) == 4);
+LJ_LAYOUT(sizeof(lj_answer) == 8 && offsetof(lj_answer, held) == 4);
+LJ_LAYOUT(sizeof(lj_fragment) == 12 && offsetof(lj_fragment, length) == 4 && offsetof(lj_fragment, marker) == 8);
+LJ_LAYOUT(sizeof(lj_kept) == 132 && offsetof(lj_kept, tables) == 4);
+LJ_LAYOUT(sizeof(lj_receiver) == 1076);
+LJ_LAYOUT(offsetof(lj_receiver, source) == 0 && offsetof(lj_receiver, room) == 4);
+LJ_LAYOUT(offsetof(lj_receiver, picture) == 8 && offsetof(lj_receiver, time) == 12);
+LJ_LAYOUT(offsetof(lj_receiver, kind) == 16 && offsetof(lj_receiver, q) == 20);
+LJ_LAYOUT(offsetof(lj_receiver, width) == 24 && offsetof(lj_receiver, height) == 28);
+LJ_LAYOUT(offsetof(lj_receiver, interval) == 32 && offsetof(lj_receiver, end) == 36);
+LJ_LAYOUT(offsetof(lj_receiver, whole) == 40 && offsetof(lj_receiver, fragment_count) == 44);
+LJ_LAYOUT(offsetof(lj_receiver, fragments) == 48 && offsetof(lj_receiver, tables) == 816);
+LJ_LAYOUT(offsetof(lj_receiver, kept) == 944);
+LJ_LAYOUT(sizeof(lj_opened) == 1084 && offsetof(lj_opened, receiver) == 8);
+#undef LJ_LAYOUT
 
 /* The quantiser tables of a Q from 1 to 99, as RFC 2435 section 4.2 makes them: 64 luma entries, then 64 chroma
  * entries, each in the zigzag order of a DQT segment, none of them 0. They are the first 128 bytes of out, and out
@@ -68,6 +166,28 @@ lj_written lj_packet(uint32_t type, uint32_t q, uint32_t width, uint32_t height,
                      const uint8_t *tables, size_t tables_len, const uint8_t *scan, size_t scan_len,
                      uint32_t packet_size, uint16_t start, uint32_t time, uint32_t source, uint32_t k,
                      uint8_t *out, size_t out_len);
+
+/* A receiver of a source, with a room for scans of up to 65,536 bytes: LJ_SUCCESS, and it holds nothing. With
+ * LJ_ROOM_OUTSIDE its room is 0, and lj_receive answers LJ_NOT_WELL_FORMED to it. */
+lj_opened lj_open(uint32_t source, uint32_t room);
+
+/* Takes a packet, as it came from the network, into the picture that it is for. The receiver becomes the next one, and the
+ * packet's scan bytes are written at their place in the area, and nothing elsewhere.
+ *
+ *   receiver     as lj_open gave it and the last call left it, as the area
+ *   area         as long as the receiver's room. It needs no clearing, before the first packet or between pictures
+ *   packet       with its RTP header
+ *
+ * The first packet of a newer picture that is taken ends the one held, whole or not; before that nothing of it is lost. At
+ * LJ_WHOLE the picture's scan is the first `end` bytes of the area, its tables and all else are in the receiver, and both
+ * stay so until a newer picture starts. At LJ_HELD there are gaps: it is not to be shown.
+ *
+ * area may overlap neither the receiver nor the packet, and the receiver not the packet. Refusals, in this order, each
+ * with the bytes held and nothing changed: LJ_NOT_WELL_FORMED, LJ_AREA_NOT_ROOM, LJ_TOO_LONG, LJ_TOO_SHORT (under 12
+ * bytes), LJ_OTHER_VERSION, LJ_OTHER_PAYLOAD, LJ_OTHER_SOURCE, LJ_TOO_SHORT, LJ_OTHER_TYPE, LJ_OTHER_TYPE_SPECIFIC,
+ * LJ_Q_RESERVED, LJ_SIDE_ZERO, LJ_TOO_SHORT, LJ_INTERVAL_ZERO, LJ_TOO_SHORT, LJ_TABLE_RULE, LJ_NO_SCAN, LJ_PAST, LJ_UNLIKE,
+ * LJ_BEYOND, LJ_AGAIN (which is no fault) or LJ_CLASH, LJ_FULL, LJ_BARE. */
+lj_answer lj_receive(lj_receiver *receiver, uint8_t *area, size_t area_len, const uint8_t *packet, size_t packet_len);
 
 #ifdef __cplusplus
 }

@@ -2,7 +2,7 @@
 use Prim.Native.Nat.{ℕ}
 use mathlib.Core.Bool.{Bool}
 use mathlib.Core.List.{List}
-use mathlib.Core.Path.{_≡_, sym, _∙_}
+use mathlib.Core.Path.{_≡_, sym, ap, _∙_}
 use Rattle.fragments.specs.Array.{Surveys, Places, PutsIn, HasNone, TellsClear}
 use Rattle.fragments.specs.declared.Fragment.{Fragment}
 use Rattle.fragments.specs.declared.Placed.{Placed}
@@ -19,6 +19,7 @@ use Rattle.sender.specs.declared.Stamp.{Stamp}
 use Rattle.slices.specs.Slices.{GivesPart, PutsAt, TellsSame}
 use Rattle.state.specs.Opening.{Opens}
 use Rattle.state.specs.WellFormed.{Inspects, TellsWhole}
+use Rattle.state.specs.declared.Answer.{Answer}
 use Rattle.state.specs.declared.Inspected.{Inspected}
 use Rattle.state.specs.declared.Opened.{Opened}
 use Rattle.state.specs.declared.Receiver.{Receiver}
@@ -121,7 +122,7 @@ well-kept k b b′ x y = only x y
 pub is-blank : (tables : List ℕ) (b b′ : Bool) → TellsBlank tables b → TellsBlank tables b′ → b ≡ b′
 is-blank tables b b′ x y = only x y
 
--- `state::open`, `state::inspect` and `state::whole_flag`
+-- `state::open`, and `lj_open`, which has the same contract; `state::inspect` and `state::whole_flag`
 pub opens : (source room : ℕ) (o o′ : Opened) → Opens source room o → Opens source room o′ → o ≡ o′
 opens source room o o′ x y = only x y
 
@@ -134,3 +135,9 @@ whole-flag end bytes w w′ x y = only x y
 -- `receiver::receive`: the answer, the next receiver and the area
 pub receive : (r : Receiver) (area packet : List ℕ) (d d′ : Received) (after after′ : List ℕ) → Receives r area packet d after → Receives r area packet d′ after′ → (d ≡ d′) × (after ≡ after′)
 receive r area packet d d′ after after′ a b = (only (a .answer) (b .answer), only (a .lent) (b .lent))
+
+-- `lj_receive`: the same, with the receiver that is left behind the reference
+pub receive-in-place : (r : Receiver) (area packet : List ℕ) (x x′ : Answer) (next next′ : Receiver) (after after′ : List ℕ) → Receives r area packet (record { answer = x; receiver = next }) after → Receives r area packet (record { answer = x′; receiver = next′ }) after′ → (x ≡ x′) × (next ≡ next′) × (after ≡ after′)
+receive-in-place r area packet x x′ next next′ after after′ a b =
+    let d = only (a .answer) (b .answer) in
+    (ap (λ (c : Received). c .answer) d, ap (λ (c : Received). c .receiver) d, only (a .lent) (b .lent))

@@ -1,9 +1,14 @@
 // The C interface: thin entries over the crates below. include/ljosvark.h declares them for C.
+ghost use Rattle.receiver.specs.Step.{Receives};
 ghost use Rattle.sender.specs.Picture.{picture};
 ghost use Rattle.sender.specs.Sending.{Sends};
+ghost use Rattle.state.specs.Opening.{Opens};
 ghost use Rattle.tables.specs.MakeTables.{MakesTables};
 use replies::Written;
 use sender::Stamp;
+use state::Answer;
+use state::Opened;
+use state::Receiver;
 use wire::Header;
 
 #[no_mangle]
@@ -57,4 +62,29 @@ pub extern "C" fn lj_packet(
         source,
     };
     sender::packet(header, tables, scan, size, stamp, k, out)
+}
+
+#[no_mangle]
+pub extern "C" fn lj_open(source: u32, room: u32) -> Opened
+    ensures { λ r. ⌜ Opens source room r ⌝ }
+{
+    state::open(source, room)
+}
+
+// The step in place: the host's own receiver becomes the next one.
+#[no_mangle]
+pub extern "C" fn lj_receive(receiver: &mut Receiver, area: &mut [u8], packet: &[u8]) -> Answer
+    ensures { λ answer.
+        ⌜
+        Receives
+        (now (receiver .entry))
+        (now (area .entry))
+        (now (packet .entry))
+        (record { answer = answer; receiver = now (receiver .exit) })
+        (now (area .exit))
+        ⌝ }
+{
+    let done = receiver::receive(*receiver, area, packet);
+    *receiver = done.receiver;
+    done.answer
 }
