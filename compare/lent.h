@@ -25,6 +25,15 @@ static inline uint8_t *lend(lent *l, size_t length, uint8_t fill) {
 /* The bytes that are to stand in the lent memory afterwards, to be changed by whoever says what is right. */
 static inline uint8_t *wanted(lent *l) { return l->wanted + GUARD; }
 
+/* Lends a copy of these bytes, which is to stay as it is, between guards of one byte. */
+static inline uint8_t *lend_copy(lent *l, const uint8_t *bytes, size_t length, uint8_t fill) {
+    uint8_t *memory = lend(l, length, fill);
+    if (length == 0) return memory;
+    memcpy(memory, bytes, length);
+    memcpy(wanted(l), bytes, length);
+    return memory;
+}
+
 /* The first place, counted from the lent memory's start, whose byte is not the wanted one; -GUARD - 1 where none is. */
 static inline long first_difference(const lent *l) {
     for (size_t i = 0; i < GUARD + l->length + GUARD; i++)
@@ -32,6 +41,6 @@ static inline long first_difference(const lent *l) {
     return -GUARD - 1;
 }
 
-static inline int all_wanted(const lent *l) { return first_difference(l) == -GUARD - 1; }
+static inline int all_wanted(const lent *l) { return memcmp(l->memory, l->wanted, GUARD + l->length + GUARD) == 0; }
 
 #endif

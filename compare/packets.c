@@ -2,17 +2,15 @@
  * after packet from offset 0 and keeps the one that is asked for. It works out no offset, length or count beforehand.
  * The first argument, if there is one, is the seed of the scan and table bytes and of the cases chosen by chance. */
 #include "../include/ljosvark.h"
+#include "chance.h"
 #include "lent.h"
 
 #include <inttypes.h>
-#include <stdlib.h>
 
 _Static_assert(LJ_SUCCESS == 0 && LJ_PARAMETERS == 40 && LJ_SCAN_LENGTH == 41 && LJ_PACKET_SIZE == 42 &&
                    LJ_SENT_TABLES == 43 && LJ_OVER_64_PACKETS == 44 && LJ_INDEX_TOO_LARGE == 45 &&
                    LJ_PACKET_OUTPUT == 46,
                "the header's numbers are document 01's");
-
-#define COUNT(array) (sizeof(array) / sizeof *(array))
 
 enum { SCANS = 3 * 65536, BY_CHANCE = 240000 };
 
@@ -168,9 +166,7 @@ static lj_written called(const call *c, const uint8_t *tables, const uint8_t *sc
 /* Tables between guards like the output's. The scan lies among the other bytes of scan_lent, a twin of scan_bytes:
  * some scans are longer than a `lent` holds, and copying the long ones for each call would take most of the time. */
 static lj_written between_guards(const call *c, uint8_t *out, uint8_t fill) {
-    uint8_t *tables = lend(&tables_lent, c->tables_len, fill);
-    memcpy(tables, c->tables, c->tables_len);
-    memcpy(wanted(&tables_lent), c->tables, c->tables_len);
+    uint8_t *tables = lend_copy(&tables_lent, c->tables, c->tables_len, fill);
     lj_written ours = called(c, tables, scan_lent + c->scan_at, out);
     size_t from = c->scan_at - GUARD;
     inputs_kept = all_wanted(&tables_lent) &&
@@ -240,25 +236,8 @@ static void stated(const call *c, uint32_t reply) {
     stop(c);
 }
 
-/* ---- Choice by chance ---- */
-
-static uint64_t chance;
-
-/* xorshift64*, of which the upper half is used. */
-static uint32_t any(void) {
-    chance ^= chance >> 12;
-    chance ^= chance << 25;
-    chance ^= chance >> 27;
-    return (uint32_t)(chance * UINT64_C(0x2545f4914f6cdd1d) >> 32);
-}
-
-static uint32_t below(uint32_t n) { return any() % n; }
-
-static uint32_t between(uint32_t least, uint32_t most) { return least + below(most - least + 1); }
-
 static void fill_bytes(void) {
-    chance = seed ^ UINT64_C(0x9e3779b97f4a7c15);
-    if (chance == 0) chance = 1; /* the one state that never changes */
+    begin_chance(seed);
     for (size_t i = 0; i < sizeof scan_bytes; i++) scan_bytes[i] = (uint8_t)any();
     memcpy(scan_lent, scan_bytes, sizeof scan_bytes);
     for (size_t i = 0; i < sizeof table_bytes; i++) table_bytes[i] = (uint8_t)between(1, 255);
@@ -749,12 +728,7 @@ static int every_reply_occurred(void) {
 }
 
 int main(int argc, char **argv) {
-    char none[] = "", *end = none;
-    seed = argc > 1 ? strtoull(argv[1], &end, 0) : 2435;
-    if (*end != '\0') {
-        printf("packets: the seed is a number, and not %s\n", argv[1]);
-        return 1;
-    }
+    seed = seed_given("packets", argc, argv);
     fill_bytes();
     try_by_hand();
     try_limits();

@@ -19,7 +19,8 @@
 extern "C" {
 #endif
 
-/* The replies, of all calls. The packet's own faults, 10 to 21, and the receiver's, from 22 on, all come from lj_receive. */
+/* The replies, of all calls; those of a receiver and of a packet come from lj_receive. The first packet of a picture is the
+ * one at offset 0 of its scan, whenever it arrives. */
 enum {
     LJ_SUCCESS = 0,              /* done; where there is a length, it says how many bytes were written */
     LJ_HELD = 0,                 /* receiver: the packet is taken; the picture is not whole yet */
@@ -38,12 +39,12 @@ enum {
     LJ_Q_RESERVED = 17,          /* packet: Q is 0 or 100 to 127 */
     LJ_SIDE_ZERO = 18,           /* packet: width or height is 0 */
     LJ_INTERVAL_ZERO = 19,       /* packet: the restart interval of type 64 or 65 is 0 */
-    LJ_TABLE_RULE = 20,          /* packet: tables of 16 bits, of a length other than 0 and 128, with a 0, or none with Q 255 */
+    LJ_TABLE_RULE = 20,          /* packet: tables of 16 bits, not 0 or 128 bytes, with a 0 in them, or none with Q 255 */
     LJ_NO_SCAN = 21,             /* packet: no scan data */
     LJ_PAST = 22,                /* receiver: the picture held is newer, or exactly 2^31 away, or is this one and whole */
     LJ_UNLIKE = 23,              /* receiver: type, Q, width, height or interval unlike the picture's */
     LJ_BEYOND = 24,              /* receiver: the scan data would end beyond the room */
-    LJ_CLASH = 25,               /* receiver: contradicts what is held: a byte that is there already, or the picture's end */
+    LJ_CLASH = 25,               /* receiver: contradicts what is held: a byte that is there already, or where it ends */
     LJ_FULL = 26,                /* receiver: 64 fragments are held */
     LJ_BARE = 27,                /* receiver: the first packet brings no tables, and none are kept for its Q */
     LJ_Q_NOT_MADE = 34,          /* table making: Q is not 1 to 99 */
@@ -91,7 +92,7 @@ typedef struct {
     uint32_t source;            /* the source (SSRC) that it takes packets of */
     uint32_t room;              /* the length of the scan area */
     uint32_t picture;           /* 1 while a picture is held, and else 0 */
-    uint32_t time;              /* its time stamp; this and all that follows up to kept is 0 where it is not known or not used */
+    uint32_t time;              /* its time stamp; 0, like all that follows but kept, while not known or not used */
     uint32_t kind;              /* its type: 0, 1, 64 or 65 */
     uint32_t q;
     uint32_t width;             /* in units of 8 pixels, as is height */
@@ -101,7 +102,8 @@ typedef struct {
     uint32_t whole;             /* 1 once no byte of it is missing, and else 0 */
     uint32_t fragment_count;
     lj_fragment fragments[64];  /* those held, in offset order; the places behind them are 0 */
-    uint8_t tables[128];        /* its tables, 64 luma entries and 64 chroma entries in zigzag order, once the first packet is in */
+    uint8_t tables[128];        /* its tables, 64 luma entries and 64 chroma entries in zigzag order, once the first packet
+                                 * is in */
     lj_kept kept;
 } lj_receiver;
 
@@ -110,27 +112,23 @@ typedef struct {
     lj_receiver receiver;
 } lj_opened;
 
-/* The layout that the archive has. */
-#ifdef __cplusplus
-#define LJ_LAYOUT(holds) static_assert(holds, #holds)
-#else
-#define LJ_LAYOUT(holds) _Static_assert(holds, #holds)
+#ifndef __cplusplus
+/* The layout that the archive has; a C++ compiler lays these structs out as the C compiler does. */
+_Static_assert(sizeof(lj_written) == 8 && offsetof(lj_written, length) == 4, "lj_written");
+_Static_assert(sizeof(lj_answer) == 8 && offsetof(lj_answer, held) == 4, "lj_answer");
+_Static_assert(sizeof(lj_fragment) == 12 && offsetof(lj_fragment, offset) == 0, "lj_fragment");
+_Static_assert(offsetof(lj_fragment, length) == 4 && offsetof(lj_fragment, marker) == 8, "lj_fragment");
+_Static_assert(sizeof(lj_kept) == 132 && offsetof(lj_kept, q) == 0 && offsetof(lj_kept, tables) == 4, "lj_kept");
+_Static_assert(sizeof(lj_receiver) == 1076 && offsetof(lj_receiver, source) == 0, "lj_receiver");
+_Static_assert(offsetof(lj_receiver, room) == 4 && offsetof(lj_receiver, picture) == 8, "lj_receiver");
+_Static_assert(offsetof(lj_receiver, time) == 12 && offsetof(lj_receiver, kind) == 16, "lj_receiver");
+_Static_assert(offsetof(lj_receiver, q) == 20 && offsetof(lj_receiver, width) == 24, "lj_receiver");
+_Static_assert(offsetof(lj_receiver, height) == 28 && offsetof(lj_receiver, interval) == 32, "lj_receiver");
+_Static_assert(offsetof(lj_receiver, end) == 36 && offsetof(lj_receiver, whole) == 40, "lj_receiver");
+_Static_assert(offsetof(lj_receiver, fragment_count) == 44 && offsetof(lj_receiver, fragments) == 48, "lj_receiver");
+_Static_assert(offsetof(lj_receiver, tables) == 816 && offsetof(lj_receiver, kept) == 944, "lj_receiver");
+_Static_assert(sizeof(lj_opened) == 1084 && offsetof(lj_opened, receiver) == 8, "lj_opened");
 #endif
-LJ_LAYOUT(sizeof(lj_written) == 8 && offsetof(lj_written, length) == 4);
-LJ_LAYOUT(sizeof(lj_answer) == 8 && offsetof(lj_answer, held) == 4);
-LJ_LAYOUT(sizeof(lj_fragment) == 12 && offsetof(lj_fragment, length) == 4 && offsetof(lj_fragment, marker) == 8);
-LJ_LAYOUT(sizeof(lj_kept) == 132 && offsetof(lj_kept, tables) == 4);
-LJ_LAYOUT(sizeof(lj_receiver) == 1076);
-LJ_LAYOUT(offsetof(lj_receiver, source) == 0 && offsetof(lj_receiver, room) == 4);
-LJ_LAYOUT(offsetof(lj_receiver, picture) == 8 && offsetof(lj_receiver, time) == 12);
-LJ_LAYOUT(offsetof(lj_receiver, kind) == 16 && offsetof(lj_receiver, q) == 20);
-LJ_LAYOUT(offsetof(lj_receiver, width) == 24 && offsetof(lj_receiver, height) == 28);
-LJ_LAYOUT(offsetof(lj_receiver, interval) == 32 && offsetof(lj_receiver, end) == 36);
-LJ_LAYOUT(offsetof(lj_receiver, whole) == 40 && offsetof(lj_receiver, fragment_count) == 44);
-LJ_LAYOUT(offsetof(lj_receiver, fragments) == 48 && offsetof(lj_receiver, tables) == 816);
-LJ_LAYOUT(offsetof(lj_receiver, kept) == 944);
-LJ_LAYOUT(sizeof(lj_opened) == 1084 && offsetof(lj_opened, receiver) == 8);
-#undef LJ_LAYOUT
 
 /* The quantiser tables of a Q from 1 to 99, as RFC 2435 section 4.2 makes them: 64 luma entries, then 64 chroma
  * entries, each in the zigzag order of a DQT segment, none of them 0. They are the first 128 bytes of out, and out
@@ -167,26 +165,28 @@ lj_written lj_packet(uint32_t type, uint32_t q, uint32_t width, uint32_t height,
                      uint32_t packet_size, uint16_t start, uint32_t time, uint32_t source, uint32_t k,
                      uint8_t *out, size_t out_len);
 
-/* A receiver of a source, with a room for scans of up to 65,536 bytes: LJ_SUCCESS, and it holds nothing. With
- * LJ_ROOM_OUTSIDE its room is 0, and lj_receive answers LJ_NOT_WELL_FORMED to it. */
+/* A receiver of a source (SSRC), with a room of 1 to 65,536 bytes, which is the longest scan that it can take and the length
+ * of the area that it is lent: LJ_SUCCESS, and it holds nothing. With any other room LJ_ROOM_OUTSIDE, and a receiver of
+ * that source with room 0, to which lj_receive answers LJ_NOT_WELL_FORMED. */
 lj_opened lj_open(uint32_t source, uint32_t room);
 
 /* Takes a packet, as it came from the network, into the picture that it is for. The receiver becomes the next one, and the
  * packet's scan bytes are written at their place in the area, and nothing elsewhere.
  *
- *   receiver     as lj_open gave it and the last call left it, as the area
- *   area         as long as the receiver's room. It needs no clearing, before the first packet or between pictures
+ *   receiver     as lj_open gave it or the last call left it; not NULL
+ *   area         as long as the receiver's room, and as the last call left it. What is in it before the first call does not
+ *                matter, and it needs no clearing between pictures
  *   packet       with its RTP header
  *
- * The first packet of a newer picture that is taken ends the one held, whole or not; before that nothing of it is lost. At
- * LJ_WHOLE the picture's scan is the first `end` bytes of the area, its tables and all else are in the receiver, and both
- * stay so until a newer picture starts. At LJ_HELD there are gaps: it is not to be shown.
+ * A packet of a newer picture, once one is taken, ends the picture held, whole or not; a refused one does not. At LJ_WHOLE
+ * the picture's scan is the first `end` bytes of the area, its tables and all else are in the receiver, and both stay so
+ * until a newer picture starts. At LJ_HELD bytes are missing, and the picture is not to be shown.
  *
- * area may overlap neither the receiver nor the packet, and the receiver not the packet. Refusals, in this order, each
- * with the bytes held and nothing changed: LJ_NOT_WELL_FORMED, LJ_AREA_NOT_ROOM, LJ_TOO_LONG, LJ_TOO_SHORT (under 12
- * bytes), LJ_OTHER_VERSION, LJ_OTHER_PAYLOAD, LJ_OTHER_SOURCE, LJ_TOO_SHORT, LJ_OTHER_TYPE, LJ_OTHER_TYPE_SPECIFIC,
- * LJ_Q_RESERVED, LJ_SIDE_ZERO, LJ_TOO_SHORT, LJ_INTERVAL_ZERO, LJ_TOO_SHORT, LJ_TABLE_RULE, LJ_NO_SCAN, LJ_PAST, LJ_UNLIKE,
- * LJ_BEYOND, LJ_AGAIN (which is no fault) or LJ_CLASH, LJ_FULL, LJ_BARE. */
+ * Receiver, area and packet may not overlap each other. Refusals, in this order, each with nothing changed and the count of
+ * what is held: LJ_NOT_WELL_FORMED (count 0), LJ_AREA_NOT_ROOM, LJ_TOO_LONG, LJ_TOO_SHORT (under 12 bytes),
+ * LJ_OTHER_VERSION, LJ_OTHER_PAYLOAD, LJ_OTHER_SOURCE, LJ_TOO_SHORT, LJ_OTHER_TYPE, LJ_OTHER_TYPE_SPECIFIC, LJ_Q_RESERVED,
+ * LJ_SIDE_ZERO, LJ_TOO_SHORT, LJ_INTERVAL_ZERO, LJ_TOO_SHORT, LJ_TABLE_RULE, LJ_NO_SCAN, LJ_PAST, LJ_UNLIKE, LJ_BEYOND,
+ * LJ_AGAIN (which is no fault) or LJ_CLASH, LJ_FULL, LJ_BARE. */
 lj_answer lj_receive(lj_receiver *receiver, uint8_t *area, size_t area_len, const uint8_t *packet, size_t packet_len);
 
 #ifdef __cplusplus

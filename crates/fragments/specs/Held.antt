@@ -58,9 +58,8 @@ no-gap at e i (f ∷ fs) o n t a b = split (ltb i (stop f))
     (λ h. rw (no-gap (stop f) e i fs (o .2) (n .1) (omega (arith, total-within (stop f) e fs (o .2) (n .1) (n .0))) (ltb-false i (stop f) h) b) (or-true (holds i f)))
 
 -- byte 0 is held exactly where the first begins there
-pub start-held : (fs : List Fragment) → 0 < length fs → InOrder 0 fs → any (holds 0) fs ≡ eqb (fragmentAt fs 0 .offset) 0
-start-held [] h o = absurd (omega arith)
-start-held (f ∷ fs) h o = split (eqb (f .offset) 0)
+pub first-starts : (f : Fragment) (fs : List Fragment) → InOrder 0 (f ∷ fs) → any (holds 0) (f ∷ fs) ≡ eqb (f .offset) 0
+first-starts f fs o = split (eqb (f .offset) 0)
     (λ e. let z = eqb-true (f .offset) 0 e in rw (is-held 0 f (omega arith) (omega (arith, o)), e))
     (λ e. let z = eqb-false (f .offset) 0 e in
     rw (lt-leb (f .offset) 0 (omega (arith, z)), e)

@@ -8,7 +8,9 @@ ghost use lib.ListN.{length};
 ghost use Rattle.fragments.specs.Array.{Surveys, Places, PutsIn, HasNone, TellsClear};
 ghost use Rattle.fragments.specs.Fragments as Fragments;
 use pair::alike;
+use pair::bits;
 use pair::follows;
+use pair::is_start;
 use pair::share;
 
 // The part of a scan that a packet carries: `length` bytes from `offset` on; and the marker, 1 on the last of its picture and 0 on any
@@ -20,9 +22,11 @@ pub struct Fragment {
     pub marker: u32,
 }
 
-// Of the fragments held: whether they are in order, where the last ends and its marker, and how many bytes they have.
+// Of the fragments held: whether they are in order, whether the first begins with byte 0 of the scan, where the last ends and its
+// marker, and how many bytes they have.
 pub struct Surveyed {
     pub ordered: bool,
+    pub from_0: bool,
     pub stop: u64,
     pub marker: u32,
     pub bytes: u64,
@@ -37,8 +41,8 @@ pub struct Placed {
 }
 
 // What one pass over the first `count` tells. It counts those that do not follow the one before and has no early way out, so that
-// the compiler can vectorise it. The second clause hands on what the array's type says, which the prover does not know of a struct's
-// field.
+// the compiler can vectorise it. The first is told of here too: a place that is named by a number elsewhere would have the array taken
+// apart and copied once more. The second clause hands on what the array's type says, which the prover does not know of a struct's field.
 pub fn survey(fragments: [Fragment; 64], count: u32) -> Surveyed
     ensures { λ r. ⌜ Surveys fragments count r ⌝ }
     ensures { λ _. ⌜ length fragments ≡ 64 ⌝ }
@@ -57,6 +61,7 @@ pub fn survey(fragments: [Fragment; 64], count: u32) -> Surveyed
     }
     Surveyed {
         ordered: wrong == 0,
+        from_0: is_start(fragments[0], n),
         stop: stop(last),
         marker: last.marker,
         bytes,
@@ -87,25 +92,21 @@ pub fn place(fragments: [Fragment; 64], count: u32, f: Fragment) -> Placed
 }
 
 // The fragments with one more at a place of the first `count`: those from there on move up, the last first. As they were where there
-// is no such place, or all 64 are used.
+// is no such place, or all 64 are used. There is one way out, so that the array is copied once.
 pub fn insert(fragments: [Fragment; 64], count: u32, at: usize, f: Fragment) -> [Fragment; 64]
     ensures { λ r. ⌜ PutsIn fragments count at f r ⌝ }
 {
     let mut a = fragments;
-    if 64 <= count {
-        return a;
-    }
     let mut j = count as usize;
-    if j < at {
-        return a;
+    if count < 64 && at <= j {
+        while at < j {
+            let below = j - 1;
+            let g = a[below];
+            a[j] = g;
+            j = below;
+        }
+        a[at] = f;
     }
-    while at < j {
-        let below = j - 1;
-        let g = a[below];
-        a[j] = g;
-        j = below;
-    }
-    a[at] = f;
     a
 }
 
@@ -117,19 +118,17 @@ pub fn none() -> [Fragment; 64]
     [unused; 64]
 }
 
-// Whether the places behind the first `count` are unused: all their numbers 0.
+// Whether the places behind the first `count` are unused: no bit is set in any of their numbers.
 pub fn are_clear(fragments: [Fragment; 64], count: u32) -> bool
     ensures { λ r. ⌜ TellsClear fragments count r ⌝ }
 {
     let n = used(count);
-    let mut wrong: u32 = 0;
+    let mut set: u32 = 0;
     for i in n..64 {
         let f = fragments[i];
-        if !alike(f, nothing()) {
-            wrong += 1;
-        }
+        set = set | bits(f);
     }
-    wrong == 0
+    set == 0
 }
 
 pub(crate) fn nothing() -> Fragment

@@ -30,7 +30,7 @@ module _ {A : Type 0} (test : A → Bool) where
   all-suc (x ∷ l) (suc i) d h = rw (all-suc l i d (le-of-suc-le-suc h)) (and-assoc (test x) (all (take i l)) (test (getD l i d)))
 
   module _ (l : List A) (i : ℕ) (d : A) (h : i < length l) where
-    all-more : all (take (i + 1) l) ≡ (all (take i l) && test (getD l i d))
+    pub all-more : all (take (i + 1) l) ≡ (all (take i l) && test (getD l i d))
     all-more = rw add-one (all-suc l i d h)
 
     pub all-pass : test (getD l i d) ≡ true → all (take (i + 1) l) ≡ all (take i l)

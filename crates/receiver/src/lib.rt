@@ -95,10 +95,10 @@ fn accept(
     ensures { λ d. ⌜ d ≡ Step.tookIn (Step.taken (pictureFor receiver said) (now (packet .entry)) said) ⌝ }
     ensures { λ _. ⌜ now (area .exit) ≡ put (now (area .entry)) (said .offset) (scanIn (now (packet .entry)) said) ⌝ }
 {
-    slices::put(wire::scan(packet, said), said.offset as usize, area);
     let sum = picture.held + said.scan.length as u32;
     let next = taken(receiver, picture, packet, said, at, sum);
     let reply = reply_with(next.whole);
+    slices::put(wire::scan(packet, said), said.offset as usize, area);
     Received {
         answer: Answer { reply, held: sum },
         receiver: next,

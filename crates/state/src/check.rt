@@ -2,7 +2,7 @@
 // with no early way out.
 ghost use mathlib.Core.Bool.{cond, _&&_};
 ghost use mathlib.Core.Path.{_≡_};
-ghost use lib.Dec.{ltb, leb, eqb};
+ghost use lib.Dec.{leb, eqb};
 ghost use lib.ListN.{take, drop};
 ghost use Rattle.fragments.specs.Array.{Surveys};
 ghost use Rattle.laws.specs.Same.{same};
@@ -76,12 +76,12 @@ fn end_given(survey: Surveyed) -> u64
     if survey.marker == 1 { survey.stop } else { 0 }
 }
 
-// Whether the tables are what the Q and the fragments held call for, of which `first` is the first of `count`. A reserved Q was
-// refused with the header fields, and is like one whose tables are brought.
-pub(crate) fn tables_right(first: Fragment, count: u32, q: u32, tables: [u8; 128]) -> bool
-    ensures { λ r. ⌜ r ≡ Rule.tablesGiven (ltb 0 count && eqb (first .offset) 0) q tables ⌝ }
+// Whether the tables are what the Q calls for, by whether byte 0 of the scan is held. A reserved Q was refused with the header fields,
+// and is like one whose tables are brought.
+pub(crate) fn tables_right(started: bool, q: u32, tables: [u8; 128]) -> bool
+    ensures { λ r. ⌜ r ≡ Rule.tablesGiven started q tables ⌝ }
 {
-    if !is_start(first, count) {
+    if !started {
         return kept::is_blank(tables);
     }
     match wire::table_source(q) {
@@ -90,16 +90,6 @@ pub(crate) fn tables_right(first: Fragment, count: u32, q: u32, tables: [u8; 128
         TableSource::AlwaysBrought => wire::are_full(&tables),
         TableSource::Reserved => wire::are_full(&tables),
     }
-}
-
-// Whether there is a first fragment, and it begins with byte 0 of the scan.
-fn is_start(first: Fragment, count: u32) -> bool
-    ensures { λ r. ⌜ r ≡ (ltb 0 count && eqb (first .offset) 0) ⌝ }
-{
-    if count == 0 {
-        return false;
-    }
-    first.offset == 0
 }
 
 // Whether these are the tables made for a Q.

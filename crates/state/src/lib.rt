@@ -126,7 +126,7 @@ pub fn inspect(receiver: Receiver) -> Inspected
 
 // The rules, with the survey of the fragments held.
 fn well_formed(receiver: Receiver, survey: Surveyed) -> bool
-    requires { ⌜ Surveys (receiver .fragments) (receiver .«fragment_count») survey × (length (receiver .fragments) ≡ 64) ⌝ }
+    requires { ⌜ Surveys (receiver .fragments) (receiver .«fragment_count») survey ⌝ }
     ensures { λ r. ⌜ r ≡ wellFormed receiver ⌝ }
 {
     if !is_room(receiver.room) {
@@ -158,7 +158,7 @@ fn well_formed(receiver: Receiver, survey: Surveyed) -> bool
         return false;
     }
     let tables = receiver.tables;
-    if !check::tables_right(fragments[0], count, receiver.q, tables) {
+    if !check::tables_right(survey.from_0, receiver.q, tables) {
         return false;
     }
     let kept = receiver.kept;

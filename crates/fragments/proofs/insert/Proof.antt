@@ -1,9 +1,10 @@
 -- `fragments::insert` meets its contract: those from j on have moved up. Assumes nothing.
 use Prim.Native.Nat.{_-_, _≤_}
+use mathlib.Core.Logic.{⊎-elim}
 use mathlib.Core.Path.{_≡_, sym}
 use native.Mathlib.Omega.{arith}
 use borrow.Author.Needs.{needs}
-use borrow.Author.Tests.{le-ltb, lt-ltb, le-leb, lt-leb}
+use borrow.Author.Tests.{le-ltb, lt-ltb, leb-true}
 use Rattle.fragments.proofs.Moved.{moved, moved-none, moved-more, moved-put}
 use Rattle.fragments.proofs.insert.Statement.{statement}
 use Rattle.fragments.proofs.insert.Tie as tie
@@ -14,14 +15,10 @@ Inv-loop count at f a₀ j₀ a j = (a ≡ moved j count a₀) × (at ≤ j) × 
 abbrev μ-loop : tie.MeasureT-loop
 μ-loop count at f a₀ j₀ a j = j
 
-returns : tie.Need-returns Inv-loop μ-loop
-returns c = rw (le-ltb (c .before .args .count) 64 (omega arith))
-
-returns-2 : tie.Need-returns-2 Inv-loop μ-loop
-returns-2 c = let a = c .before .before .args in rw (lt-ltb (a .count) 64 (omega arith), lt-leb (a .at) (a .count) (omega arith))
-
 loop-holds : tie.Need-loop-holds Inv-loop μ-loop
-loop-holds c = (sym (moved-none (c .before .before .args .count) (c .before .before .args .fragments) (search needs)), search needs, search needs)
+loop-holds c =
+    let a = c .before .before .args in
+    (sym (moved-none (a .count) (a .fragments) (omega (arith, c .before .if1 .taken))), leb-true (a .at) (a .count) (c .if2 .taken), search needs)
 
 sub-below : tie.Need-sub-below Inv-loop μ-loop
 sub-below c = search needs
@@ -53,11 +50,16 @@ mul-a-2 c = search needs
 array-set-from-a-2 : tie.Need-array-set-from-a-2 Inv-loop μ-loop
 array-set-from-a-2 c = search needs
 
-returns-3 : tie.Need-returns-3 Inv-loop μ-loop
-returns-3 c =
-    let a = c .before .before .before .before .args in
+returns : tie.Need-returns Inv-loop μ-loop
+returns c =
+    let t = c .before .before in
+    let a = t .before .before .args in
+    let few = t .before .if1 .taken in
     let e : c .before .loop .j ≡ a .at = omega arith in
-    rw (lt-ltb (a .count) 64 (omega arith), le-leb (a .at) (a .count) (omega arith), c .before .loop .inv .0, e) (moved-put (a .count) (a .fragments) (search needs) (a .at) (a .f) (omega arith))
+    rw (lt-ltb (a .count) 64 few, t .if2 .taken, c .before .loop .inv .0, e) (moved-put (a .count) (a .fragments) (search needs) (a .at) (a .f) (leb-true (a .at) (a .count) (t .if2 .taken)))
+
+returns-2 : tie.Need-returns-2 Inv-loop μ-loop
+returns-2 c = let n = c .before .args .count in ⊎-elim (λ w. rw (lt-ltb n 64 (w .0 .taken), w .1 .left)) (λ w. rw (le-ltb n 64 (w .left))) (c .if1 .came)
 
 pub insert-spec : {M : Type 1} → statement M
 insert-spec =
@@ -65,8 +67,6 @@ insert-spec =
     (tie.spec
     Inv-loop
     μ-loop
-    returns
-    returns-2
     loop-holds
     sub-below
     mul-g
@@ -77,4 +77,5 @@ insert-spec =
     loop-again
     mul-a-2
     array-set-from-a-2
-    returns-3)
+    returns
+    returns-2)

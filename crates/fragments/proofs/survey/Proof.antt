@@ -8,7 +8,7 @@ use borrow.Author.Tests.{not-true, not-false}
 use lib.Dec.{eqb}
 use lib.ListN.{length, getD, take}
 use Rattle.laws.specs.Chained.{chained, chained-pass, chained-fail, last-more}
-use Rattle.fragments.specs.Array.{surveyed}
+use Rattle.fragments.specs.Array.{surveyed, from-zero}
 use Rattle.fragments.specs.Fragments.{stop, nothing}
 use Rattle.fragments.specs.Held.{total, total-more}
 use Rattle.fragments.specs.Order as Order
@@ -76,21 +76,31 @@ loop-again c =
       sym (last-more nothing l i nothing h),
     )
 
+array-copy-out-is-start : tie.Need-array-copy-out-is-start Inv-loop μ-loop
+array-copy-out-is-start c = search needs
+
+is-start-requires : tie.Need-is-start-requires Inv-loop μ-loop
+is-start-requires c κs = search needs
+
 stop-requires : tie.Need-stop-requires Inv-loop μ-loop
 stop-requires c κs = search needs
 
 returns : tie.Need-returns Inv-loop μ-loop
 returns c =
-    let b = c .before .before in
+    let b = c .before .before .before .before in
     let u = b .before .before in
-    let e : b .loop .i ≡ u .used .result = omega arith in
-    let line = rw e at (b .loop .inv .2) ∙ Order.ordered-chain (take (u .used .result) (u .before .args .t1)) in
+    let l = u .before .args .t1 in
+    let n = u .used .result in
+    let fs = take n l in
+    let e : b .loop .i ≡ n = omega arith in
+    let line = rw e at (b .loop .inv .2) ∙ Order.ordered-chain fs in
+    let first = c .before .is-start .ensures ∙ sym (from-zero l n (search needs)) in
     let bytes = rw e at (b .loop .inv .3) in
     let last = rw e at (b .loop .inv .5) in
     let end = c .stop .ensures ∙ ap stop last in
     let marker = ap (λ (f : Fragment). f .marker) last in
-    let all : record { ordered = eqb (b .loop .wrong) 0; stop = c .stop .result; marker = b .loop .last .marker; bytes = b .loop .bytes } ≡ surveyed (take (u .used .result) (u .before .args .t1)) = cc (line, end, marker, bytes) in
-    (all ∙ ap surveyed (first-of-64 (u .before .args .count) (u .before .args .t1) (search needs) (u .used .ensures)), search needs)
+    let all : record { ordered = eqb (b .loop .wrong) 0; «from_0» = c .before .is-start .result; stop = c .stop .result; marker = b .loop .last .marker; bytes = b .loop .bytes } ≡ surveyed fs = cc (line, first, end, marker, bytes) in
+    (all ∙ ap surveyed (first-of-64 (u .before .args .count) l (search needs) (u .used .ensures)), search needs)
 
 pub survey-spec : {M : Type 1} → statement M
 survey-spec =
@@ -110,5 +120,7 @@ survey-spec =
     add-i
     loop-less
     loop-again
+    array-copy-out-is-start
+    is-start-requires
     stop-requires
     returns)

@@ -1,4 +1,4 @@
--- `receiver::accept` meets its contract: the area, then the answer. Assumes nothing.
+-- `receiver::accept` meets its contract: the answer, then the area. Assumes nothing.
 use Prim.Native.Nat.{_+_}
 use mathlib.Core.Bool.{Bool, cond}
 use mathlib.Core.Path.{_≡_, ap, _∙_}
@@ -22,6 +22,26 @@ use Rattle.receiver.proofs.accept.Tie as tie
 sum : (s : tie.Start) → let a = s .args in a .picture .held + a .said .scan .length ≡ total (heldFragments (pictureFor (a .receiver) (a .said))) + a .said .scan .length
 sum s = rw (ap (λ (x : Numbers). x .held) (s .pre .1 .0))
 
+cast-sum : tie.Need-cast-sum
+cast-sum c =
+    let s = c .before .before .before in
+    let short = scan-short (s .args .receiver .source) (now (s .args .packet)) (s .args .said) (s .pre .0 .0 .read) in
+    omega arith
+
+add-sum : tie.Need-add-sum
+add-sum c =
+    let s = c .before .before .before .before in
+    let short = scan-short (s .args .receiver .source) (now (s .args .packet)) (s .args .said) (s .pre .0 .0 .read) in
+    omega (arith, sum s, held-small (s .pre .0 .0) (s .pre .1 .1 .0))
+
+taken-requires : tie.Need-taken-requires
+taken-requires c κs =
+    let s = c .before .before .before .before in
+    ((s .pre .0 .0, s .pre .1 .1 .0), (s .pre .1 .0, (s .pre .1 .1 .1, sum s)))
+
+reply-with-requires : tie.Need-reply-with-requires
+reply-with-requires c κs = search needs
+
 scan-requires : tie.Need-scan-requires
 scan-requires c κs = search needs
 
@@ -31,34 +51,16 @@ cast-put c = search needs
 put-requires : tie.Need-put-requires
 put-requires c κs = search needs
 
-cast-sum : tie.Need-cast-sum
-cast-sum c =
-    let s = c .before .before .before .before .before .before .before .before .before in
-    let short = scan-short (s .args .receiver .source) (now (s .args .packet)) (s .args .said) (s .pre .0 .0 .read) in
-    omega arith
-
-add-sum : tie.Need-add-sum
-add-sum c =
-    let s = c .before .before .before .before .before .before .before .before .before .before in
-    let short = scan-short (s .args .receiver .source) (now (s .args .packet)) (s .args .said) (s .pre .0 .0 .read) in
-    omega (arith, sum s, held-small (s .pre .0 .0) (s .pre .1 .1 .0))
-
-taken-requires : tie.Need-taken-requires
-taken-requires c κs =
-    let s = c .before .before .before .before .before .before .before .before .before .before in
-    ((s .pre .0 .0, s .pre .1 .1 .0), (s .pre .1 .0, (s .pre .1 .1 .1, sum s)))
-
-reply-with-requires : tie.Need-reply-with-requires
-reply-with-requires c κs = search needs
-
 same-length : tie.Need-same-length
 same-length c = search needs
 
 returns : tie.Need-returns
 returns c =
-    let t = c .before in
-    let put = t .before .before .before .before .before in
-    let s = put .before .before .before .before .before .before in
+    let put = c .before .before in
+    let scan = put .before .before .before in
+    let r = scan .before in
+    let t = r .before in
+    let s = t .before .before .before .before .before in
     let a = s .args in
     let known = s .pre .0 .0 in
     let accepted = s .pre .1 .1 .0 in
@@ -66,22 +68,22 @@ returns c =
     let next = taken v (now (a .packet)) (a .said) in
     let receiver : t .taken .result ≡ next = t .taken .ensures in
     let held : a .picture .held + a .said .scan .length ≡ total (heldFragments next) = rw (sum s, held-taken v (now (a .packet)) (a .said)) (total-after known accepted) in
-    let reply : c .reply-with .result ≡ cond (whole (heldFragments next)) Reply.whole Reply.held =
-    c .reply-with .ensures
+    let reply : r .reply-with .result ≡ cond (whole (heldFragments next)) Reply.whole Reply.held =
+    r .reply-with .ensures
     ∙ ap (λ (x : Receiver). cond (eqb (x .whole) 1) Reply.whole Reply.held) receiver
     ∙ ap (λ (b : Bool). cond b Reply.whole Reply.held) (flag-told v (now (a .packet)) (a .said)) in
-    (same-answer reply held receiver, written known accepted (now (a .area)) (s .pre .0 .1) (put .before .before .before .scan .ensures) (put .put .ensures))
+    (same-answer reply held receiver, written known accepted (now (a .area)) (s .pre .0 .1) (scan .scan .ensures) (put .put .ensures))
 
 pub accept-spec : {M : Type 1} → statement M
 accept-spec =
     tie.close
     (tie.spec
-    scan-requires
-    cast-put
-    put-requires
     cast-sum
     add-sum
     taken-requires
     reply-with-requires
+    scan-requires
+    cast-put
+    put-requires
     same-length
     returns)

@@ -1,14 +1,12 @@
 -- `state::well_formed` meets its contract: rule by rule. Assumes nothing.
-use Prim.Native.Nat.{_≤_}
 use mathlib.Core.Bool.{Bool, true}
 use mathlib.Core.Path.{_≡_, sym, ap, _∙_}
-use native.Mathlib.Omega.{arith}
 use borrow.Author.Needs.{needs}
 use borrow.Author.Tests.{not-true, not-false, le-leb, lt-leb}
 use lib.Dec.{leb}
-use lib.ListN.{length}
-use Rattle.fragments.specs.Array.{first-starts}
+use Rattle.fragments.specs.Array.{start-held}
 use Rattle.fragments.specs.Order.{in-place}
+use Rattle.fragments.specs.declared.Surveyed.{Surveyed}
 use Rattle.state.specs.Receiver.{heldFragments}
 use Rattle.state.specs.WellFormed.{isRoom, tablesGiven}
 use Rattle.state.specs.declared.Receiver.{Receiver}
@@ -31,14 +29,15 @@ pictured c = sym (c .before .picture-right .ensures) ∙ not-false _ (c .if3 .le
 filed : (c : tie.Else4) → fragmentsOf (c .before .before .before .before .before .before .before .before .args .receiver) ≡ true
 filed c = sym (c .before .fragments-right .ensures) ∙ not-false _ (c .if4 .left)
 
-tabled : (c : tie.After-tables-right) → c .tables-right .result ≡ tablesOf (c .before .before .before .before .before .before .before .before .before .before .before .args .receiver)
+tabled : (c : tie.After-tables-right) → c .tables-right .result ≡ tablesOf (c .before .before .before .before .before .before .before .before .before .before .args .receiver)
 tabled c =
-    let f = c .before .before .before in
+    let f = c .before .before in
     let start = f .before .before .before .before .before .before .before .before in
     let r = start .args .receiver in
-    let few : r .«fragment_count» ≤ length (r .fragments) = omega (arith, start .pre .1, f .before .before .before .before .before .if2 .left) in
     let order = in-place (r .room) (heldFragments r) (are-in-place r (filed f)) .order in
-    c .tables-right .ensures ∙ ap (λ (b : Bool). tablesGiven b (r .q) (r .tables)) (sym (first-starts (r .fragments) (r .«fragment_count») few order))
+    c .tables-right .ensures
+    ∙ ap (λ (s : Surveyed). tablesGiven (s .«from_0») (r .q) (r .tables)) (start .pre)
+    ∙ ap (λ (b : Bool). tablesGiven b (r .q) (r .tables)) (sym (start-held (heldFragments r) order))
 
 is-room-requires : tie.Need-is-room-requires
 is-room-requires c κs = search needs
@@ -71,16 +70,13 @@ returns-4 c =
     let p = c .before .before .before in
     rw (room (p .before .before .before), counted (p .before .before), pictured p, sym (c .before .fragments-right .ensures) ∙ not-true _ (c .if4 .taken)) at (regrouped (receiver p))
 
-array-copy-out-tables-right : tie.Need-array-copy-out-tables-right
-array-copy-out-tables-right c = search needs
-
 tables-right-requires : tie.Need-tables-right-requires
 tables-right-requires c κs = search needs
 
 returns-5 : tie.Need-returns-5
 unfolding grouped
 returns-5 c =
-    let f = c .before .before .before .before in
+    let f = c .before .before .before in
     let p = f .before .before .before in
     rw (room (p .before .before .before), counted (p .before .before), pictured p, filed f, sym (tabled (c .before)) ∙ not-true _ (c .if5 .taken)) at (regrouped (receiver p))
 
@@ -91,7 +87,7 @@ returns-6 : tie.Need-returns-6
 unfolding grouped
 returns-6 c =
     let t = c .before .before in
-    let f = t .before .before .before .before in
+    let f = t .before .before .before in
     let p = f .before .before .before in
     c .well-kept .ensures ∙ rw (room (p .before .before .before), counted (p .before .before), pictured p, filed f, sym (tabled (t .before)) ∙ not-false _ (t .if5 .left)) at (regrouped (receiver p))
 
@@ -106,7 +102,6 @@ well-formed-spec =
     returns-3
     fragments-right-requires
     returns-4
-    array-copy-out-tables-right
     tables-right-requires
     returns-5
     well-kept-requires

@@ -1,27 +1,23 @@
 -- `state::check::tables_right` meets its contract: by where the tables come from. Assumes nothing.
-use mathlib.Core.Bool.{true, _&&_}
+use mathlib.Core.Bool.{true}
 use mathlib.Core.Path.{_≡_, sym, _∙_}
 use borrow.Author.Needs.{needs}
 use borrow.Author.Tests.{not-true, not-false}
-use lib.Dec.{ltb, eqb}
 use Rattle.wire.specs.TableSource.{made-between}
 use Rattle.wire.specs.Tables.{full-of-128}
 use Rattle.state.specs.WellFormed.{tablesGiven}
 use Rattle.state.proofs.check.tables_right.Statement.{statement}
 use Rattle.state.proofs.check.tables_right.Tie as tie
 
-held : (c : tie.Else1) → (ltb 0 (c .before .before .args .count) && eqb (c .before .before .args .first .offset) 0) ≡ true
-held c = sym (c .before .is-start .ensures) ∙ not-false _ (c .if1 .left)
-
-is-start-requires : tie.Need-is-start-requires
-is-start-requires c κs = search needs
+held : (c : tie.Else1) → c .before .args .started ≡ true
+held c = not-false (c .before .args .started) (c .if1 .left)
 
 is-blank-requires : tie.Need-is-blank-requires
 is-blank-requires c κs = search needs
 
 returns : tie.Need-returns
 unfolding tablesGiven
-returns c = rw (sym (c .before .before .is-start .ensures) ∙ not-true _ (c .before .if1 .taken)) (c .is-blank .ensures)
+returns c = rw (not-true (c .before .before .args .started) (c .before .if1 .taken)) (c .is-blank .ensures)
 
 table-source-requires : tie.Need-table-source-requires
 table-source-requires c κs = search needs
@@ -30,7 +26,7 @@ enum-told : tie.Need-enum-told
 enum-told c = search needs
 
 are-made-requires : tie.Need-are-made-requires
-are-made-requires c κs = let q = c .before .before .before .before .before .args .q in made-between q (rw (sym (c .before .before .table-source .ensures) ∙ c .enum-told .given .1))
+are-made-requires c κs = let q = c .before .before .before .before .args .q in made-between q (rw (sym (c .before .before .table-source .ensures) ∙ c .enum-told .given .1))
 
 enum-told-2 : tie.Need-enum-told-2
 enum-told-2 c = search needs
@@ -67,25 +63,24 @@ returns-3 : tie.Need-returns-3
 unfolding tablesGiven
 returns-3 c =
     let s = c .before .before .before .before in
-    rw (held (s .before), sym (s .table-source .ensures) ∙ c .before .before .enum-told2 .given .1) (c .are-full .ensures ∙ full-of-128 (s .before .before .before .args .t4) (search needs))
+    rw (held (s .before), sym (s .table-source .ensures) ∙ c .before .before .enum-told2 .given .1) (c .are-full .ensures ∙ full-of-128 (s .before .before .args .t3) (search needs))
 
 returns-4 : tie.Need-returns-4
 unfolding tablesGiven
 returns-4 c =
     let s = c .before .before .before .before in
-    rw (held (s .before), sym (s .table-source .ensures) ∙ c .before .before .enum-told3 .given .1) (c .are-full2 .ensures ∙ full-of-128 (s .before .before .before .args .t4) (search needs))
+    rw (held (s .before), sym (s .table-source .ensures) ∙ c .before .before .enum-told3 .given .1) (c .are-full2 .ensures ∙ full-of-128 (s .before .before .args .t3) (search needs))
 
 returns-5 : tie.Need-returns-5
 unfolding tablesGiven
 returns-5 c =
     let s = c .before .before .before .before in
-    rw (held (s .before), sym (s .table-source .ensures) ∙ c .before .before .enum-told4 .given .1) (c .are-full3 .ensures ∙ full-of-128 (s .before .before .before .args .t4) (search needs))
+    rw (held (s .before), sym (s .table-source .ensures) ∙ c .before .before .enum-told4 .given .1) (c .are-full3 .ensures ∙ full-of-128 (s .before .before .args .t3) (search needs))
 
 pub tables-right-spec : {M : Type 1} → statement M
 tables-right-spec =
     tie.close
     (tie.spec
-    is-start-requires
     is-blank-requires
     returns
     table-source-requires
