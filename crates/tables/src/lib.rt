@@ -1,10 +1,11 @@
 // The quantiser tables of a Q.
 mod standard;
 
-ghost use Prim.Native.Nat.{_≤_};
+ghost use Prim.Native.Nat.{_/_, _≤_, _<_};
 ghost use mathlib.Core.List.{_++_};
 ghost use mathlib.Core.Path.{_≡_};
 ghost use lib.ListN.{length, drop};
+ghost use Rattle.laws.specs.Within.{Between};
 ghost use Rattle.replies.specs.Output.{Writes};
 ghost use Rattle.replies.specs.Output.Decision.{write};
 ghost use Rattle.replies.specs.Reply.{tables-output};
@@ -26,40 +27,39 @@ pub fn make_tables(q: u32, out: &mut [u8]) -> Written
 }
 
 fn write_scaled(scale: u32, out: &mut [u8]) -> Written
-    requires { ⌜ scale ≤ 5000 ⌝ }
+    requires { ⌜ Between 1 5000 scale ⌝ }
     ensures { λ w. ⌜ Writes tables-output (write (scaled scale)) (now (out .entry)) w (now (out .exit)) ⌝ }
 {
     if out.len() < 128 {
         return Written::refusal(TABLES_OUTPUT);
     }
-    write_tables(scale, out);
+    write_tables(scale as u16, out);
     Written::success(128)
 }
 
-fn write_tables(scale: u32, out: &mut [u8])
-    requires { ⌜ scale ≤ 5000 ⌝ }
+fn write_tables(scale: u16, out: &mut [u8])
+    requires { ⌜ Between 1 5000 scale ⌝ }
     requires { ⌜ 128 ≤ length (now out) ⌝ }
     ensures { λ _. ⌜ now (out .exit) ≡ scaled scale ++ drop 128 (now (out .entry)) ⌝ }
 {
+    let most = 25_549 / scale;
     let luma = standard::luma();
     let chroma = standard::chroma();
     for i in 0..64 {
-        out[i] = made_entry(luma[i], scale);
-        out[64 + i] = made_entry(chroma[i], scale);
+        out[i] = made_entry(luma[i], scale, most);
+        out[64 + i] = made_entry(chroma[i], scale, most);
     }
 }
 
-// (v * S + 50) / 100, held within 1 to 255.
-fn made_entry(v: u8, scale: u32) -> u8
-    requires { ⌜ scale ≤ 5000 ⌝ }
+// (v * S + 50) / 100, held within 1 to 255. It is above 255 where v * S is above 25,549, and so where v is above `most`: that is asked
+// first, and then 16 bits hold the product, of which the compiler makes eight at a time.
+fn made_entry(v: u8, scale: u16, most: u16) -> u8
+    requires { ⌜ (0 < scale) × (most ≡ 25549 / scale) ⌝ }
     ensures { λ r. ⌜ r ≡ made scale v ⌝ }
 {
-    let x = (v as u32 * scale + 50) / 100;
-    if x < 1 {
-        1
-    } else if 255 < x {
-        255
-    } else {
-        x as u8
+    if most < v as u16 {
+        return 255;
     }
+    let x = (v as u16 * scale + 50) / 100;
+    if x < 1 { 1 } else { x as u8 }
 }

@@ -1,7 +1,7 @@
 -- `tables::make_tables` meets its contract: each arm of the match is a law of `tablesFor`. Assumes nothing.
 use borrow.Author.Needs.{needs}
 use mathlib.Core.Logic.{⊎-elim}
-use native.Mathlib.Nat.{div-le-self}
+use native.Mathlib.Nat.{div-le-self, le-div-iff-mul-le}
 use native.Mathlib.Omega.{arith}
 use Rattle.replies.specs.Output.{writes-refused}
 use Rattle.tables.specs.MakeTables.{tables-to-50, tables-from-51, no-tables-under-1, no-tables-over-99}
@@ -12,7 +12,7 @@ div-write-scaled : tie.Need-div-write-scaled
 div-write-scaled c = search needs
 
 write-scaled-requires : tie.Need-write-scaled-requires
-write-scaled-requires c κs = div-le-self 5000 _
+write-scaled-requires c κs = let q = c .before .before .before .before .args .q in (le-div-iff-mul-le {k = q} {x = 1} {y = 5000} (omega arith) .1 (omega arith), div-le-self 5000 q)
 
 mul-write-scaled : tie.Need-mul-write-scaled
 mul-write-scaled c = search needs

@@ -12,6 +12,9 @@ refusal-requires c κs = search needs
 returns : tie.Need-returns
 returns c = writes-short 128 (length-scaled _) (omega arith) (c .refusal .ensures)
 
+cast-write-tables : tie.Need-cast-write-tables
+cast-write-tables c = search needs
+
 write-tables-requires : tie.Need-write-tables-requires
 write-tables-requires c κs = search needs
 
@@ -27,4 +30,4 @@ returns-2 c = writes-all 128 (length-scaled _) (omega arith) (c .success .ensure
 pub write-scaled-spec : {M : Type 1} → statement M
 write-scaled-spec =
     tie.close
-    (tie.spec refusal-requires returns write-tables-requires success-requires same-length returns-2)
+    (tie.spec refusal-requires returns cast-write-tables write-tables-requires success-requires same-length returns-2)

@@ -16,10 +16,13 @@ made-at : (s i : ℕ) (entry : ℕ → ℕ → ℕ) {l : List ℕ} {v : ℕ} →
 made-at s i entry h e g = g ∙ rw e (sym (map-at (made s) (inZigzag entry) i (omega (arith, length-in-zigzag entry))))
 
 abbrev Inv-loop : tie.InvT-loop
-Inv-loop scale out₀ luma chroma i₀ out i = (i ≤ 64) × (length out ≡ length out₀) × Filled (map (made scale) (inZigzag lumaAt)) (map (made scale) (inZigzag chromaAt)) out₀ i out
+Inv-loop scale out₀ most luma chroma i₀ out i = (i ≤ 64) × (length out ≡ length out₀) × Filled (map (made scale) (inZigzag lumaAt)) (map (made scale) (inZigzag chromaAt)) out₀ i out
 
 abbrev μ-loop : tie.MeasureT-loop
-μ-loop scale out₀ luma chroma i₀ out i = 64 - i
+μ-loop scale out₀ most luma chroma i₀ out i = 64 - i
+
+div-most : tie.Need-div-most Inv-loop μ-loop
+div-most c = search needs
 
 luma-requires : tie.Need-luma-requires Inv-loop μ-loop
 luma-requires c κs = search needs
@@ -83,6 +86,7 @@ write-tables-spec =
     (tie.spec
     Inv-loop
     μ-loop
+    div-most
     luma-requires
     chroma-requires
     loop-holds
