@@ -163,7 +163,7 @@ static int run_open(const char *at) {
 
 static uint32_t sum_of_lengths(const lj_receiver *r) {
     uint32_t sum = 0;
-    for (uint32_t i = 0; i < r->fragment_count; i++) sum += r->fragments[i].length;
+    for (uint32_t i = 0; i < 64 && i < r->fragment_count; i++) sum += r->fragments[i].length;
     return sum;
 }
 

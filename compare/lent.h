@@ -25,7 +25,7 @@ static inline uint8_t *lend(lent *l, size_t length, uint8_t fill) {
 /* The bytes that are to stand in the lent memory afterwards, to be changed by whoever says what is right. */
 static inline uint8_t *wanted(lent *l) { return l->wanted + GUARD; }
 
-/* Lends a copy of these bytes, which is to stay as it is, between guards of one byte. */
+/* Lends a copy of these bytes between guards of one byte; it is wanted back as it is, unless `wanted` is changed. */
 static inline uint8_t *lend_copy(lent *l, const uint8_t *bytes, size_t length, uint8_t fill) {
     uint8_t *memory = lend(l, length, fill);
     if (length == 0) return memory;

@@ -30,7 +30,8 @@ static inline int new_fragment(const lj_receiver *before, const lj_receiver *aft
     return -1;
 }
 
-/* What is wrong with the area after a packet was taken, or NULL: only the new fragment's place is the packet's. */
+/* What is wrong with the area after a packet was taken, or NULL: it may differ at the new fragment's place alone. Whether
+ * the packet's bytes stand there is for the programs to ask. */
 static inline const char *area_wrong(void) {
     const lj_receiver *after = &receiver_lent.receiver;
     int place = new_fragment(&receiver_before.receiver, after);

@@ -14,7 +14,7 @@ _Static_assert(LJ_HELD == 0 && LJ_WHOLE == 1 && LJ_AGAIN == 2 && LJ_AREA_NOT_ROO
 enum { STATES = 170000, OF_NOISE = 100000, PARTLY_NOISE = 6000, WRITTEN_OVER = 40000, REACHED = 600 };
 enum { SCAN_MOST = 1300, PACKET_MOST = 4096 };
 
-/* Scans, areas, tables and whole receivers are stretches of these bytes; `entries` has no 0. */
+/* Scans, areas and tables are stretches of these bytes; `entries` has no 0. */
 static uint8_t noise[4 * 65536], entries[65536], area[LENT_MOST];
 static uint8_t made[100][128]; /* the tables of each Q from 1 to 99 */
 
@@ -651,11 +651,19 @@ static void try_limits(void) {
             }
 }
 
-/* Those that are partly noise come further: room and picture are such as they can be, and nothing is kept. */
+static void fill_with_noise(lj_receiver *r) {
+    for (size_t at = 0; at < sizeof *r; at += 4) {
+        uint32_t n = any();
+        memcpy((uint8_t *)r + at, &n, 4);
+    }
+}
+
+/* Random bytes are almost always refused for the room. Those that are partly noise come further: room and picture are such
+ * as they can be, and nothing is kept. */
 static void try_noise(void) {
     for (int i = 0; i < OF_NOISE + PARTLY_NOISE; i++) {
         reached e = pool[below(REACHED)];
-        memcpy(&e.receiver, noise + below(sizeof noise - sizeof e.receiver), sizeof e.receiver);
+        fill_with_noise(&e.receiver);
         if (OF_NOISE <= i) {
             e.receiver.room = chosen_room();
             e.receiver.picture = below(2);

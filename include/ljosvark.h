@@ -3,11 +3,11 @@
  * Every call has a defined reply for every input: no number, byte or length is one that the host has to check first.
  *
  * Memory. The host owns all of it. A pointer comes with the length of the memory behind it, or points to a struct, and is
- * lent for the call alone: no call keeps a pointer, and nothing else may touch what is lent while the call runs. What a
- * call writes may overlap nothing else that is lent with it; what it only reads may overlap what it only reads. Memory of
- * no bytes may be lent as NULL with length 0. A refusal changes no byte of what is lent.
+ * lent for the call alone: no call keeps a pointer. While a call runs, nothing else may write to what it is lent, or read
+ * what it writes. What it writes may overlap nothing else that it is lent; two pieces that it only reads may overlap each
+ * other. Memory of no bytes may be lent as NULL with length 0. A refusal changes no byte of what is lent.
  *
- * There is no other state: calls on different receivers and memory may run at the same time.
+ * There is no other state: calls may run at the same time where what one writes is lent to no other.
  */
 #ifndef LJOSVARK_H
 #define LJOSVARK_H
@@ -44,9 +44,9 @@ enum {
     LJ_PAST = 22,                /* receiver: the picture held is newer, or exactly 2^31 away, or is this one and whole */
     LJ_UNLIKE = 23,              /* receiver: type, Q, width, height or interval unlike the picture's */
     LJ_BEYOND = 24,              /* receiver: the scan data would end beyond the room */
-    LJ_CLASH = 25,               /* receiver: contradicts what is held: a byte that is there already, or where it ends */
+    LJ_CLASH = 25,               /* receiver: a byte that is held already, in no exact repeat, or at odds with the end */
     LJ_FULL = 26,                /* receiver: 64 fragments are held */
-    LJ_BARE = 27,                /* receiver: the first packet brings no tables, and none are kept for its Q */
+    LJ_BARE = 27,                /* receiver: Q 128 to 254, no tables in the first packet, and none kept for that Q */
     LJ_Q_NOT_MADE = 34,          /* table making: Q is not 1 to 99 */
     LJ_TABLES_OUTPUT = 35,       /* table making: the output is under 128 bytes */
     LJ_PARAMETERS = 40,          /* sender: type, Q, width, height or interval outside its limits */
@@ -87,12 +87,12 @@ typedef struct {
 /* A receiver: a value like any other, with no pointer in it. It may be copied, kept and gone back to, on the stack or
  * anywhere else, together with the scan area as it was then; nothing has to be closed. The fields are for reading. A host
  * that writes to them does no harm but to its picture: every pattern of bits is answered, as LJ_NOT_WELL_FORMED or as what
- * it says. */
+ * it says. What is not known yet, or not used, is 0: without a picture, all from time to tables. */
 typedef struct {
     uint32_t source;            /* the source (SSRC) that it takes packets of */
     uint32_t room;              /* the length of the scan area */
     uint32_t picture;           /* 1 while a picture is held, and else 0 */
-    uint32_t time;              /* its time stamp; 0, like all that follows but kept, while not known or not used */
+    uint32_t time;              /* its time stamp */
     uint32_t kind;              /* its type: 0, 1, 64 or 65 */
     uint32_t q;
     uint32_t width;             /* in units of 8 pixels, as is height */
@@ -107,6 +107,7 @@ typedef struct {
     lj_kept kept;
 } lj_receiver;
 
+/* What opening answers: a reply, with 0 held, and the receiver. */
 typedef struct {
     lj_answer answer;
     lj_receiver receiver;
@@ -114,8 +115,10 @@ typedef struct {
 
 #ifndef __cplusplus
 /* The layout that the archive has; a C++ compiler lays these structs out as the C compiler does. */
-_Static_assert(sizeof(lj_written) == 8 && offsetof(lj_written, length) == 4, "lj_written");
-_Static_assert(sizeof(lj_answer) == 8 && offsetof(lj_answer, held) == 4, "lj_answer");
+_Static_assert(sizeof(lj_written) == 8 && offsetof(lj_written, reply) == 0, "lj_written");
+_Static_assert(offsetof(lj_written, length) == 4, "lj_written");
+_Static_assert(sizeof(lj_answer) == 8 && offsetof(lj_answer, reply) == 0, "lj_answer");
+_Static_assert(offsetof(lj_answer, held) == 4, "lj_answer");
 _Static_assert(sizeof(lj_fragment) == 12 && offsetof(lj_fragment, offset) == 0, "lj_fragment");
 _Static_assert(offsetof(lj_fragment, length) == 4 && offsetof(lj_fragment, marker) == 8, "lj_fragment");
 _Static_assert(sizeof(lj_kept) == 132 && offsetof(lj_kept, q) == 0 && offsetof(lj_kept, tables) == 4, "lj_kept");
@@ -127,7 +130,8 @@ _Static_assert(offsetof(lj_receiver, height) == 28 && offsetof(lj_receiver, inte
 _Static_assert(offsetof(lj_receiver, end) == 36 && offsetof(lj_receiver, whole) == 40, "lj_receiver");
 _Static_assert(offsetof(lj_receiver, fragment_count) == 44 && offsetof(lj_receiver, fragments) == 48, "lj_receiver");
 _Static_assert(offsetof(lj_receiver, tables) == 816 && offsetof(lj_receiver, kept) == 944, "lj_receiver");
-_Static_assert(sizeof(lj_opened) == 1084 && offsetof(lj_opened, receiver) == 8, "lj_opened");
+_Static_assert(sizeof(lj_opened) == 1084 && offsetof(lj_opened, answer) == 0, "lj_opened");
+_Static_assert(offsetof(lj_opened, receiver) == 8, "lj_opened");
 #endif
 
 /* The quantiser tables of a Q from 1 to 99, as RFC 2435 section 4.2 makes them: 64 luma entries, then 64 chroma
@@ -165,28 +169,31 @@ lj_written lj_packet(uint32_t type, uint32_t q, uint32_t width, uint32_t height,
                      uint32_t packet_size, uint16_t start, uint32_t time, uint32_t source, uint32_t k,
                      uint8_t *out, size_t out_len);
 
-/* A receiver of a source (SSRC), with a room of 1 to 65,536 bytes, which is the longest scan that it can take and the length
- * of the area that it is lent: LJ_SUCCESS, and it holds nothing. With any other room LJ_ROOM_OUTSIDE, and a receiver of
- * that source with room 0, to which lj_receive answers LJ_NOT_WELL_FORMED. */
+/* A receiver of a source (SSRC), with a room of 1 to 65,536 bytes, which is the longest scan that it can take and the
+ * length of the area that it is lent: LJ_SUCCESS, and it holds nothing. With any other room LJ_ROOM_OUTSIDE, and a receiver
+ * of that source with room 0, to which lj_receive answers LJ_NOT_WELL_FORMED. */
 lj_opened lj_open(uint32_t source, uint32_t room);
 
-/* Takes a packet, as it came from the network, into the picture that it is for. The receiver becomes the next one, and the
- * packet's scan bytes are written at their place in the area, and nothing elsewhere.
+/* Takes a packet, as it came from the network, into the picture that it is for. With LJ_HELD and LJ_WHOLE the receiver
+ * becomes the next one, and the packet's scan bytes are written at their place in the area and nothing elsewhere. With any
+ * other reply nothing is changed.
  *
- *   receiver     as lj_open gave it or the last call left it; not NULL
+ *   receiver     as lj_open gave it or the last call left it; not NULL, and aligned as C aligns an lj_receiver
  *   area         as long as the receiver's room, and as the last call left it. What is in it before the first call does not
  *                matter, and it needs no clearing between pictures
  *   packet       with its RTP header
  *
- * A packet of a newer picture, once one is taken, ends the picture held, whole or not; a refused one does not. At LJ_WHOLE
- * the picture's scan is the first `end` bytes of the area, its tables and all else are in the receiver, and both stay so
- * until a newer picture starts. At LJ_HELD bytes are missing, and the picture is not to be shown.
+ * At LJ_WHOLE the picture's scan is the first `end` bytes of the area, its tables and all else are in the receiver, and
+ * both stay so until a newer picture starts. At LJ_HELD bytes are missing, and the picture is not to be shown. A newer
+ * picture starts with the first of its packets that is taken, and the picture held is then given up, whole or not: there is
+ * no reply of its own for one that was not, but `time` has changed with no LJ_WHOLE before. A refused packet ends nothing.
  *
- * Receiver, area and packet may not overlap each other. Refusals, in this order, each with nothing changed and the count of
- * what is held: LJ_NOT_WELL_FORMED (count 0), LJ_AREA_NOT_ROOM, LJ_TOO_LONG, LJ_TOO_SHORT (under 12 bytes),
- * LJ_OTHER_VERSION, LJ_OTHER_PAYLOAD, LJ_OTHER_SOURCE, LJ_TOO_SHORT, LJ_OTHER_TYPE, LJ_OTHER_TYPE_SPECIFIC, LJ_Q_RESERVED,
- * LJ_SIDE_ZERO, LJ_TOO_SHORT, LJ_INTERVAL_ZERO, LJ_TOO_SHORT, LJ_TABLE_RULE, LJ_NO_SCAN, LJ_PAST, LJ_UNLIKE, LJ_BEYOND,
- * LJ_AGAIN (which is no fault) or LJ_CLASH, LJ_FULL, LJ_BARE. */
+ * Receiver, area and packet may not overlap each other. Refusals, in this order, each with the count of what is held:
+ * LJ_NOT_WELL_FORMED (count 0), LJ_AREA_NOT_ROOM, LJ_TOO_LONG, LJ_TOO_SHORT (under 12 bytes), LJ_OTHER_VERSION,
+ * LJ_OTHER_PAYLOAD, LJ_OTHER_SOURCE, LJ_TOO_SHORT (CSRC entries, extension, padding, main header), LJ_OTHER_TYPE,
+ * LJ_OTHER_TYPE_SPECIFIC, LJ_Q_RESERVED, LJ_SIDE_ZERO, LJ_TOO_SHORT (restart header), LJ_INTERVAL_ZERO, LJ_TOO_SHORT (table
+ * header, tables), LJ_TABLE_RULE, LJ_NO_SCAN, LJ_PAST, LJ_UNLIKE, LJ_BEYOND, LJ_AGAIN (which is no fault) or LJ_CLASH,
+ * LJ_FULL, LJ_BARE. */
 lj_answer lj_receive(lj_receiver *receiver, uint8_t *area, size_t area_len, const uint8_t *packet, size_t packet_len);
 
 #ifdef __cplusplus

@@ -1,4 +1,4 @@
-mod Bits
 mod Count
 mod Counted
 mod Moved
+mod Unset

@@ -1,6 +1,6 @@
 -- The fragments held in an array of 64 places: the first `count` of them. Assumes nothing.
 use Prim.Native.Nat.{ℕ, zero, suc, _-_, _≤_, _<_}
-use mathlib.Core.Bool.{Bool, true, false, cond, _&&_}
+use mathlib.Core.Bool.{Bool, true, cond, _&&_}
 use mathlib.Core.List.{List, [], _∷_, _++_}
 use mathlib.Core.Path.{_≡_, refl, sym, ap, _∙_}
 use native.Mathlib.Omega.{arith}
@@ -9,22 +9,16 @@ use lib.Dec.{ltb, leb, eqb}
 use lib.ListN.{length, take, drop, replicate, length-append, length-drop, length-replicate, take-append-drop}
 use lib.Seq.{length-take-le, drop-cons, take-append-seam, drop-append-seam}
 use Rattle.laws.specs.All.{all}
-use Rattle.laws.specs.Any.{any}
 use Rattle.laws.specs.Insert.{insertAt, length-insert-at}
 use Rattle.laws.specs.Truth.{and-true}
 use Rattle.fragments.specs.Fragments.{stop, fragmentAt, nothing}
-use Rattle.fragments.specs.Held.{total, first-starts}
+use Rattle.fragments.specs.Held.{total, fromZero}
 use Rattle.fragments.specs.Insertion.{place, inFront}
-use Rattle.fragments.specs.Order.{areOrdered, last, InOrder}
-use Rattle.fragments.specs.Shared.{holds, share, alike, alike-same, alike-self}
+use Rattle.fragments.specs.Order.{areOrdered, last}
+use Rattle.fragments.specs.Shared.{share, alike, alike-same, alike-self}
 use Rattle.fragments.specs.declared.Fragment.{Fragment}
 use Rattle.fragments.specs.declared.Placed.{Placed}
 use Rattle.fragments.specs.declared.Surveyed.{Surveyed}
-
--- Whether there is a first, and it begins with byte 0 of the scan.
-abbrev pub fromZero : List Fragment → Bool
-fromZero [] = false
-fromZero (f ∷ fs) = eqb (f .offset) 0
 
 -- What a pass over fragments tells of them: whether they are in order, whether the first begins with byte 0, where the last ends and
 -- its marker, and how many bytes they have.
@@ -72,16 +66,11 @@ TellsClear a count b = b ≡ all isNothing (drop count a)
 
 -- ---- laws
 
--- byte 0 is held exactly where there is a first and it begins there
-pub start-held : (fs : List Fragment) → InOrder 0 fs → any (holds 0) fs ≡ fromZero fs
-start-held [] o = refl
-start-held (f ∷ fs) o = first-starts f fs o
-
--- and of the first of an array, by its first place
-pub from-zero : (a : List Fragment) (n : ℕ) → n ≤ length a → fromZero (take n a) ≡ (ltb 0 n && eqb (fragmentAt a 0 .offset) 0)
-from-zero a zero h = refl
-from-zero [] (suc n) h = absurd (omega arith)
-from-zero (f ∷ a) (suc n) h = rw (lt-ltb 0 (suc n) (omega arith))
+-- of the first n of an array: n is not 0, and the array's first place begins with byte 0
+pub first-from-zero : (a : List Fragment) (n : ℕ) → n ≤ length a → fromZero (take n a) ≡ (ltb 0 n && eqb (fragmentAt a 0 .offset) 0)
+first-from-zero a zero h = refl
+first-from-zero [] (suc n) h = absurd (omega arith)
+first-from-zero (f ∷ a) (suc n) h = rw (lt-ltb 0 (suc n) (omega arith))
 
 -- one more put in: the first n + 1 hold it at its place, and what is behind is as it was
 module _ (a : List Fragment) (n i : ℕ) (f : Fragment) (room : n < length a) where

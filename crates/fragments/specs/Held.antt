@@ -22,6 +22,11 @@ abbrev pub total : List Fragment → ℕ
 total [] = 0
 total (f ∷ fs) = f .length + total fs
 
+-- There is a first, and it begins with byte 0 of the scan.
+abbrev pub fromZero : List Fragment → Bool
+fromZero [] = false
+fromZero (f ∷ fs) = eqb (f .offset) 0
+
 -- The end is the marked fragment's offset plus length, and 0 while it is not known.
 abbrev pub endOf : List Fragment → ℕ
 endOf [] = 0
@@ -57,9 +62,10 @@ no-gap at e i (f ∷ fs) o n t a b = split (ltb i (stop f))
     (λ h. rw (is-held i f (omega (arith, total-within (stop f) e fs (o .2) (n .1) (n .0))) (ltb-true i (stop f) h)))
     (λ h. rw (no-gap (stop f) e i fs (o .2) (n .1) (omega (arith, total-within (stop f) e fs (o .2) (n .1) (n .0))) (ltb-false i (stop f) h) b) (or-true (holds i f)))
 
--- byte 0 is held exactly where the first begins there
-pub first-starts : (f : Fragment) (fs : List Fragment) → InOrder 0 (f ∷ fs) → any (holds 0) (f ∷ fs) ≡ eqb (f .offset) 0
-first-starts f fs o = split (eqb (f .offset) 0)
+-- byte 0 is held exactly where there is a first and it begins there
+pub start-held : (fs : List Fragment) → InOrder 0 fs → any (holds 0) fs ≡ fromZero fs
+start-held [] o = refl
+start-held (f ∷ fs) o = split (eqb (f .offset) 0)
     (λ e. let z = eqb-true (f .offset) 0 e in rw (is-held 0 f (omega arith) (omega (arith, o)), e))
     (λ e. let z = eqb-false (f .offset) 0 e in
     rw (lt-leb (f .offset) 0 (omega (arith, z)), e)

@@ -3,14 +3,15 @@
 mod pair;
 
 ghost use Prim.Native.Nat.{min};
+ghost use mathlib.Core.Bool.{_&&_};
 ghost use mathlib.Core.Path.{_≡_};
+ghost use lib.Bits.{bitOr};
+ghost use lib.Dec.{ltb, eqb};
 ghost use lib.ListN.{length};
 ghost use Rattle.fragments.specs.Array.{Surveys, Places, PutsIn, HasNone, TellsClear};
 ghost use Rattle.fragments.specs.Fragments as Fragments;
 use pair::alike;
-use pair::bits;
 use pair::follows;
-use pair::is_start;
 use pair::share;
 
 // The part of a scan that a packet carries: `length` bytes from `offset` on; and the marker, 1 on the last of its picture and 0 on any
@@ -41,8 +42,9 @@ pub struct Placed {
 }
 
 // What one pass over the first `count` tells. It counts those that do not follow the one before and has no early way out, so that
-// the compiler can vectorise it. The first is told of here too: a place that is named by a number elsewhere would have the array taken
-// apart and copied once more. The second clause hands on what the array's type says, which the prover does not know of a struct's field.
+// the compiler can vectorise it. Whether the first begins with byte 0 is told here too: a caller that reads `fragments[0]` itself makes
+// the compiler take the array apart and copy it once more. The second clause hands on what the array's type says, which the prover
+// does not know of a struct's field.
 pub fn survey(fragments: [Fragment; 64], count: u32) -> Surveyed
     ensures { λ r. ⌜ Surveys fragments count r ⌝ }
     ensures { λ _. ⌜ length fragments ≡ 64 ⌝ }
@@ -61,7 +63,7 @@ pub fn survey(fragments: [Fragment; 64], count: u32) -> Surveyed
     }
     Surveyed {
         ordered: wrong == 0,
-        from_0: is_start(fragments[0], n),
+        from_0: is_from_0(fragments[0], n),
         stop: stop(last),
         marker: last.marker,
         bytes,
@@ -145,6 +147,23 @@ pub(crate) fn stop(f: Fragment) -> u64
     ensures { λ r. ⌜ r ≡ Fragments.stop f ⌝ }
 {
     f.offset as u64 + f.length as u64
+}
+
+// The bits of its numbers, together: none is set exactly where all three are 0.
+fn bits(f: Fragment) -> u32
+    ensures { λ r. ⌜ r ≡ bitOr (bitOr (f .offset) (f .length)) (f .marker) ⌝ }
+{
+    f.offset | f.length | f.marker
+}
+
+// Whether there is a first of n, and it begins with byte 0 of the scan.
+fn is_from_0(first: Fragment, n: usize) -> bool
+    ensures { λ r. ⌜ r ≡ (ltb 0 n && eqb (first .offset) 0) ⌝ }
+{
+    if n == 0 {
+        return false;
+    }
+    first.offset == 0
 }
 
 // How many of the 64 places a count takes.

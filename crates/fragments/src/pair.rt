@@ -1,30 +1,10 @@
-// What a fragment is by itself, and what two of them have to do with each other.
+// What two fragments have to do with each other.
 ghost use Prim.Native.Nat.{min, max};
-ghost use mathlib.Core.Bool.{_&&_};
 ghost use mathlib.Core.Path.{_≡_};
-ghost use lib.Bits.{bitOr};
-ghost use lib.Dec.{ltb, eqb};
 ghost use Rattle.fragments.specs.Order as Order;
 ghost use Rattle.fragments.specs.Shared as Shared;
 use crate::Fragment;
 use crate::stop;
-
-// The bits of its numbers, together: none is set exactly where all three are 0.
-pub(crate) fn bits(f: Fragment) -> u32
-    ensures { λ r. ⌜ r ≡ bitOr (bitOr (f .offset) (f .length)) (f .marker) ⌝ }
-{
-    f.offset | f.length | f.marker
-}
-
-// Whether there is a first of n, and it begins with byte 0 of the scan.
-pub(crate) fn is_start(first: Fragment, n: usize) -> bool
-    ensures { λ r. ⌜ r ≡ (ltb 0 n && eqb (first .offset) 0) ⌝ }
-{
-    if n == 0 {
-        return false;
-    }
-    first.offset == 0
-}
 
 // Whether f begins where g ends or later and has a byte, and g has no marker.
 pub(crate) fn follows(g: Fragment, f: Fragment) -> bool

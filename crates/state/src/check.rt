@@ -78,10 +78,10 @@ fn end_given(survey: Surveyed) -> u64
 
 // Whether the tables are what the Q calls for, by whether byte 0 of the scan is held. A reserved Q was refused with the header fields,
 // and is like one whose tables are brought.
-pub(crate) fn tables_right(started: bool, q: u32, tables: [u8; 128]) -> bool
-    ensures { λ r. ⌜ r ≡ Rule.tablesGiven started q tables ⌝ }
+pub(crate) fn tables_right(from_0: bool, q: u32, tables: [u8; 128]) -> bool
+    ensures { λ r. ⌜ r ≡ Rule.tablesGiven «from_0» q tables ⌝ }
 {
-    if !started {
+    if !from_0 {
         return kept::is_blank(tables);
     }
     match wire::table_source(q) {

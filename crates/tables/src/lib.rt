@@ -42,6 +42,7 @@ fn write_tables(scale: u16, out: &mut [u8])
     requires { ⌜ 128 ≤ length (now out) ⌝ }
     ensures { λ _. ⌜ now (out .exit) ≡ scaled scale ++ drop 128 (now (out .entry)) ⌝ }
 {
+    // What an entry v comes to is above 255 where v * scale is above 25,549, and so where v is above `most`.
     let most = 25_549 / scale;
     let luma = standard::luma();
     let chroma = standard::chroma();
@@ -51,8 +52,8 @@ fn write_tables(scale: u16, out: &mut [u8])
     }
 }
 
-// (v * S + 50) / 100, held within 1 to 255. It is above 255 where v * S is above 25,549, and so where v is above `most`: that is asked
-// first, and then 16 bits hold the product, of which the compiler makes eight at a time.
+// (v * S + 50) / 100, held within 1 to 255. A v above `most` is told first: then 16 bits hold the product, and the compiler makes
+// eight at a time.
 fn made_entry(v: u8, scale: u16, most: u16) -> u8
     requires { ⌜ (0 < scale) × (most ≡ 25549 / scale) ⌝ }
     ensures { λ r. ⌜ r ≡ made scale v ⌝ }

@@ -9,8 +9,8 @@ use lib.Seq.{getD-drop, take-all}
 use Rattle.laws.specs.All.{all, all-more}
 use Rattle.fragments.specs.Array.{isNothing}
 use Rattle.fragments.specs.Fragments.{nothing}
-use Rattle.fragments.proofs.Bits.{none-set, no-bits}
 use Rattle.fragments.proofs.Count.{rest-of-64}
+use Rattle.fragments.proofs.Unset.{none-set, no-bits}
 use Rattle.fragments.proofs.are_clear.Statement.{statement}
 use Rattle.fragments.proofs.are_clear.Tie as tie
 

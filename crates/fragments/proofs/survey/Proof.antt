@@ -8,7 +8,7 @@ use borrow.Author.Tests.{not-true, not-false}
 use lib.Dec.{eqb}
 use lib.ListN.{length, getD, take}
 use Rattle.laws.specs.Chained.{chained, chained-pass, chained-fail, last-more}
-use Rattle.fragments.specs.Array.{surveyed, from-zero}
+use Rattle.fragments.specs.Array.{surveyed, first-from-zero}
 use Rattle.fragments.specs.Fragments.{stop, nothing}
 use Rattle.fragments.specs.Held.{total, total-more}
 use Rattle.fragments.specs.Order as Order
@@ -76,11 +76,11 @@ loop-again c =
       sym (last-more nothing l i nothing h),
     )
 
-array-copy-out-is-start : tie.Need-array-copy-out-is-start Inv-loop μ-loop
-array-copy-out-is-start c = search needs
+array-copy-out-is-from-0 : tie.Need-array-copy-out-is-from-0 Inv-loop μ-loop
+array-copy-out-is-from-0 c = search needs
 
-is-start-requires : tie.Need-is-start-requires Inv-loop μ-loop
-is-start-requires c κs = search needs
+is-from-0-requires : tie.Need-is-from-0-requires Inv-loop μ-loop
+is-from-0-requires c κs = search needs
 
 stop-requires : tie.Need-stop-requires Inv-loop μ-loop
 stop-requires c κs = search needs
@@ -94,12 +94,12 @@ returns c =
     let fs = take n l in
     let e : b .loop .i ≡ n = omega arith in
     let line = rw e at (b .loop .inv .2) ∙ Order.ordered-chain fs in
-    let first = c .before .is-start .ensures ∙ sym (from-zero l n (search needs)) in
+    let first = c .before .is-from-0 .ensures ∙ sym (first-from-zero l n (search needs)) in
     let bytes = rw e at (b .loop .inv .3) in
     let last = rw e at (b .loop .inv .5) in
     let end = c .stop .ensures ∙ ap stop last in
     let marker = ap (λ (f : Fragment). f .marker) last in
-    let all : record { ordered = eqb (b .loop .wrong) 0; «from_0» = c .before .is-start .result; stop = c .stop .result; marker = b .loop .last .marker; bytes = b .loop .bytes } ≡ surveyed fs = cc (line, first, end, marker, bytes) in
+    let all : record { ordered = eqb (b .loop .wrong) 0; «from_0» = c .before .is-from-0 .result; stop = c .stop .result; marker = b .loop .last .marker; bytes = b .loop .bytes } ≡ surveyed fs = cc (line, first, end, marker, bytes) in
     (all ∙ ap surveyed (first-of-64 (u .before .args .count) l (search needs) (u .used .ensures)), search needs)
 
 pub survey-spec : {M : Type 1} → statement M
@@ -120,7 +120,7 @@ survey-spec =
     add-i
     loop-less
     loop-again
-    array-copy-out-is-start
-    is-start-requires
+    array-copy-out-is-from-0
+    is-from-0-requires
     stop-requires
     returns)

@@ -4,7 +4,7 @@ use mathlib.Core.Path.{_≡_, sym, ap, _∙_}
 use borrow.Author.Needs.{needs}
 use borrow.Author.Tests.{not-true, not-false, le-leb, lt-leb}
 use lib.Dec.{leb}
-use Rattle.fragments.specs.Array.{start-held}
+use Rattle.fragments.specs.Held.{start-held}
 use Rattle.fragments.specs.Order.{in-place}
 use Rattle.fragments.specs.declared.Surveyed.{Surveyed}
 use Rattle.state.specs.Receiver.{heldFragments}

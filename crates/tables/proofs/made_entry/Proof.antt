@@ -1,6 +1,5 @@
 -- `tables::made_entry` meets its contract. What is not above `most` has a product of at most 25,549, which fits; what is above it has a
 -- larger one, and is held at 255. Assumes nothing.
-use borrow.Author.Needs.{needs}
 use Prim.Native.Nat.{_*_, _/_, _≤_, _<_}
 use native.Mathlib.Nat.{le-div-iff-mul-le, div-lt-iff-lt-mul}
 use native.Mathlib.Omega.{arith}

@@ -9,15 +9,15 @@ use Rattle.state.specs.WellFormed.{tablesGiven}
 use Rattle.state.proofs.check.tables_right.Statement.{statement}
 use Rattle.state.proofs.check.tables_right.Tie as tie
 
-held : (c : tie.Else1) → c .before .args .started ≡ true
-held c = not-false (c .before .args .started) (c .if1 .left)
+held : (c : tie.Else1) → c .before .args .from-0 ≡ true
+held c = not-false (c .before .args .from-0) (c .if1 .left)
 
 is-blank-requires : tie.Need-is-blank-requires
 is-blank-requires c κs = search needs
 
 returns : tie.Need-returns
 unfolding tablesGiven
-returns c = rw (not-true (c .before .before .args .started) (c .before .if1 .taken)) (c .is-blank .ensures)
+returns c = rw (not-true (c .before .before .args .from-0) (c .before .if1 .taken)) (c .is-blank .ensures)
 
 table-source-requires : tie.Need-table-source-requires
 table-source-requires c κs = search needs
