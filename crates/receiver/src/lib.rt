@@ -80,7 +80,8 @@ fn refusal(reading: Reading) -> u32
     }
 }
 
-// The step with an accepted packet, whose fragment goes to a place of its picture.
+// The step with an accepted packet, whose fragment goes to a place of its picture. The area is written last: the compiler cannot know
+// that it is not the receiver's own memory, and would copy the fragments first.
 fn accept(
     receiver: Receiver,
     picture: Numbers,
