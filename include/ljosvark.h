@@ -19,8 +19,8 @@
 extern "C" {
 #endif
 
-/* The replies, of all calls; those of a receiver and of a packet come from lj_receive. The first packet of a picture is the
- * one at offset 0 of its scan, whenever it arrives. */
+/* The replies, of all calls. Those of a receiver and of a packet come from lj_receive; those of the file builder are kept for
+ * it, and no call here gives them. The first packet of a picture is the one at offset 0 of its scan, whenever it arrives. */
 enum {
     LJ_SUCCESS = 0,              /* done; where there is a length, it says how many bytes were written */
     LJ_HELD = 0,                 /* receiver: the packet is taken; the picture is not whole yet */
@@ -47,6 +47,8 @@ enum {
     LJ_CLASH = 25,               /* receiver: a byte that is held already, in no exact repeat, or at odds with the end */
     LJ_FULL = 26,                /* receiver: 64 fragments are held */
     LJ_BARE = 27,                /* receiver: Q 128 to 254, no tables in the first packet, and none kept for that Q */
+    LJ_NOT_WHOLE = 30,           /* file builder: no picture is held, or it is not whole */
+    LJ_FILE_OUTPUT = 31,         /* file builder: the output is shorter than the file */
     LJ_Q_NOT_MADE = 34,          /* table making: Q is not 1 to 99 */
     LJ_TABLES_OUTPUT = 35,       /* table making: the output is under 128 bytes */
     LJ_PARAMETERS = 40,          /* sender: type, Q, width, height or interval outside its limits */
