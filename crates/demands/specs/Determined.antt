@@ -3,14 +3,20 @@ use Prim.Native.Nat.{ℕ}
 use mathlib.Core.Bool.{Bool}
 use mathlib.Core.List.{List}
 use mathlib.Core.Path.{_≡_, sym, ap, _∙_}
+use Rattle.builder.specs.Building.{Builds}
 use Rattle.fragments.specs.Array.{Surveys, Places, PutsIn, HasNone, TellsClear}
 use Rattle.fragments.specs.declared.Fragment.{Fragment}
 use Rattle.fragments.specs.declared.Placed.{Placed}
 use Rattle.fragments.specs.declared.Surveyed.{Surveyed}
+use Rattle.head.specs.Head.{TellsLength, PutsHead}
+use Rattle.head.specs.declared.Frame.{Frame}
 use Rattle.kept.specs.Kept.{IsNone, TellsHas, Finds, Keeps, TellsWell, TellsBlank}
 use Rattle.kept.specs.declared.Kept.{Kept}
 use Rattle.receiver.specs.Step.{Receives}
 use Rattle.receiver.specs.declared.Received.{Received}
+use Rattle.records.specs.Framing.{TellsLength as TellsRecord}
+use Rattle.records.specs.Taking.{Takes}
+use Rattle.records.specs.declared.Taken.{Taken}
 use Rattle.replies.specs.Output.{refused, succeeded, writes-determined}
 use Rattle.replies.specs.declared.Written.{Written}
 use Rattle.sender.specs.Picture.{Picture}
@@ -141,3 +147,21 @@ pub receive-in-place : (r : Receiver) (area packet : List ℕ) (x x′ : Answer)
 receive-in-place r area packet x x′ next next′ after after′ a b =
     let d = only (a .answer) (b .answer) in
     (ap (λ (c : Received). c .answer) d, ap (λ (c : Received). c .receiver) d, only (a .lent) (b .lent))
+
+-- `head::length` and `head::put`
+pub head-length : (interval n n′ : ℕ) → TellsLength interval n → TellsLength interval n′ → n ≡ n′
+head-length interval n n′ x y = only x y
+
+pub put-head : (f : Frame) (tables before after after′ : List ℕ) → PutsHead f tables before after → PutsHead f tables before after′ → after ≡ after′
+put-head f tables before after after′ x y = only x y
+
+-- `builder::build`, and `lj_build`, which has the same contract: the answer and the output
+pub build : (r : Receiver) (area before : List ℕ) (w w′ : Written) (after after′ : List ℕ) → Builds r area before w after → Builds r area before w′ after′ → (w ≡ w′) × (after ≡ after′)
+build r area before w w′ after after′ a b = writes-determined a b
+
+-- `records::length`, and `records::take`: what came, the next receiver and the area
+pub record-length : (bytes : List ℕ) (n n′ : ℕ) → TellsRecord bytes n → TellsRecord bytes n′ → n ≡ n′
+record-length bytes n n′ x y = only x y
+
+pub take-record : (r : Receiver) (area bytes : List ℕ) (t t′ : Taken) (after after′ : List ℕ) → Takes r area bytes t after → Takes r area bytes t′ after′ → (t ≡ t′) × (after ≡ after′)
+take-record r area bytes t t′ after after′ a b = (only (a .taken) (b .taken), only (a .lent) (b .lent))

@@ -1,2 +1,3 @@
 pub mod BothSides
 pub mod Determined
+pub mod FileCases

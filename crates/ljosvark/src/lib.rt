@@ -1,4 +1,5 @@
 // The C interface: thin entries over the crates below. include/ljosvark.h declares them for C.
+ghost use Rattle.builder.specs.Building.{Builds};
 ghost use Rattle.receiver.specs.Step.{Receives};
 ghost use Rattle.sender.specs.Picture.{picture};
 ghost use Rattle.sender.specs.Sending.{Sends};
@@ -87,4 +88,11 @@ pub extern "C" fn lj_receive(receiver: &mut Receiver, area: &mut [u8], packet: &
     let done = receiver::receive(*receiver, area, packet);
     *receiver = done.receiver;
     done.answer
+}
+
+#[no_mangle]
+pub extern "C" fn lj_build(receiver: Receiver, area: &[u8], out: &mut [u8]) -> Written
+    ensures { λ w. ⌜ Builds receiver (now (area .entry)) (now (out .entry)) w (now (out .exit)) ⌝ }
+{
+    builder::build(receiver, area, out)
 }

@@ -184,6 +184,13 @@ module _ (time count : ℕ) (h : Header) where
   unfolding pictureRight isUnset
   none-held e = eqb-true count 0 (and-true (isZero count) _ (and-true (isZero time) _ e .1) .0)
 
+  pub some-held : (picture : ℕ) → pictureRight picture time count h ≡ true → (count ≡ 0 → ⊥) → isLawful h ≡ true
+  unfolding pictureRight
+  some-held picture e some =
+      split (eqb picture 0)
+      (λ z. absurd (some (none-held (rw (eqb-true picture 0 z) at e))))
+      (λ z. and-true (eqb picture 1) (isLawful h) (rw z at e) .1)
+
   pub one-held : pictureRight 1 time count h ≡ isLawful h
   unfolding pictureRight
   one-held = refl

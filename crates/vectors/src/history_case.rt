@@ -1,5 +1,6 @@
 // Histories of a receiver: lines that share a session, each of which goes on from what the one before left. The comments of `stdin`
 // say what each form gives.
+use crate::file_case;
 use crate::hex::fill;
 use crate::hex::read_hex;
 use crate::state_case::given;
@@ -59,7 +60,8 @@ pub(crate) fn run(line: &[u8], session: Session, area: &mut [u8]) -> Ran {
         return take(line, session, &mut area[0..length]);
     }
     let receiver = session.receiver;
-    let is_case = show(line, receiver, &area[0..length]);
+    let is_case = show(line, receiver, &area[0..length])
+        || file_case::run(line, receiver, &area[0..length]);
     Ran { session, is_case }
 }
 

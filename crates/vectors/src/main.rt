@@ -1,5 +1,6 @@
 // Runs the cases on standard input, a line each, and writes each case with what it gives.
 // A line that is empty or begins with # is copied, and one that is no case gives a question mark.
+mod file_case;
 mod hex;
 mod history_case;
 mod made_up;

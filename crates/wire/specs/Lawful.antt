@@ -2,6 +2,7 @@
 use Prim.Native.Nat.{ℕ, _≤_}
 use mathlib.Core.Bool.{Bool, true, false, not, _&&_}
 use mathlib.Core.Path.{_≡_, refl, sym}
+use native.Mathlib.Omega.{arith}
 use borrow.Author.Tests.{ltb-true, ltb-false, eqb-true, eq-eqb, not-true}
 use lib.Dec.{ltb, eqb}
 use Rattle.laws.specs.Truth.{split, never-both, and-true}
@@ -82,7 +83,7 @@ is-lawful h l =
     rw (l .q, is-within 1 255 (h .width) (l .width .0) (l .width .1), is-within 1 255 (h .height) (l .height .0) (l .height .1))
     (has-interval (restartsOf (h .kind)) (h .interval) (l .kind) (l .interval) (l .no-interval))
 
--- each of them is a byte on the wire, but the interval
+-- each of them is a byte on the wire, but the interval, which is two
 module _ {h : Header} (l : Lawful h) where
   pub kind-small : h .kind ≤ 65
   kind-small =
@@ -95,3 +96,9 @@ module _ {h : Header} (l : Lawful h) where
       split (ltb 255 (h .q))
       (λ e. absurd (never-both refl (rw (reserved-from-256 (h .q) (ltb-true 255 (h .q) e)) at (l .q))))
       (λ e. ltb-false 255 (h .q) e)
+
+  pub interval-small : h .interval ≤ 65535
+  interval-small =
+      split (arePresent (restartsOf (h .kind)))
+      (λ e. l .interval e .1)
+      (λ e. omega (arith, l .no-interval e))

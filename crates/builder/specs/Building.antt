@@ -1,0 +1,82 @@
+-- What the builder answers: its checks, and the file. Assumes nothing.
+use Prim.Native.Nat.{ℕ, _≤_}
+use mathlib.Core.Bool.{true, not}
+use mathlib.Core.List.{List, [], _∷_}
+use mathlib.Core.Path.{_≡_, refl}
+use native.Mathlib.Omega.{arith}
+use borrow.Author.Tests.{not-false}
+use lib.Dec.{eqb}
+use lib.ListN.{length, take, length-take}
+use Rattle.fragments.specs.Held as Held
+use Rattle.head.specs.declared.Frame.{Frame}
+use Rattle.laws.specs.Truth.{never-both, are-same}
+use Rattle.replies.specs.Checks.{Check, judged, _when_, all-hold}
+use Rattle.replies.specs.Output.{Decision, Writes, decided}
+use Rattle.replies.specs.Reply
+use Rattle.replies.specs.declared.Judged.the-variants.{Passed}
+use Rattle.replies.specs.declared.Written.{Written}
+use Rattle.state.specs.Receiver.{heldFragments, headerOf}
+use Rattle.state.specs.WellFormed.{wellFormed, WellFormed, well-formed, held-within-room, some-held}
+use Rattle.state.specs.declared.Receiver.{Receiver}
+use Rattle.wire.specs.Lawful.{Lawful, lawful}
+use Rattle.builder.specs.File.{file}
+
+-- 9, 8 and 30, in their order; 31 is against the file's own length.
+abbrev pub checks : Receiver → List ℕ → List Check
+checks r area =
+    Reply.not-well-formed when not (wellFormed r)
+    ∷ Reply.area-not-room when not (eqb (length area) (r .room))
+    ∷ Reply.not-whole when not (Held.whole (heldFragments r))
+    ∷ []
+
+-- What a whole picture's file is made of: its header fields, and the bytes of the area up to its end.
+abbrev pub frameOf : Receiver → Frame
+frameOf r = record { kind = r .kind; width = r .width; height = r .height; interval = r .interval }
+
+abbrev pub scanOf : Receiver → List ℕ → List ℕ
+scanOf r area = take (r .end) area
+
+abbrev pub fileOf : Receiver → List ℕ → List ℕ
+fileOf r area = file (frameOf r) (r .tables) (scanOf r area)
+
+-- What it decides of a receiver and an area, the room in the output aside.
+unfoldable pub building : Receiver → List ℕ → Decision
+building r area = decided (judged (checks r area)) (fileOf r area)
+
+-- The outcome of `build`.
+abbrev pub Builds : Receiver → List ℕ → List ℕ → Written → List ℕ → Type 0
+Builds r area before w after = Writes Reply.file-output (building r area) before w after
+
+-- What the checks leave: a well-formed receiver with its area, and a whole picture.
+pub record Buildable (r : Receiver) (area : List ℕ) : Type 0 where
+  pub well : WellFormed r
+  pub room : length area ≡ r .room
+  pub whole : Held.whole (heldFragments r) ≡ true
+
+-- ---- laws
+
+pub buildable : (r : Receiver) (area : List ℕ) → judged (checks r area) ≡ Passed → Buildable r area
+buildable r area e =
+    let t = all-hold (checks r area) e in
+    record {
+      well = well-formed r (not-false (wellFormed r) (t .0));
+      room = are-same (length area) (r .room) (t .1 .0);
+      whole = not-false (Held.whole (heldFragments r)) (t .1 .1 .0);
+    }
+
+module _ {r : Receiver} {area : List ℕ} (b : Buildable r area) where
+  -- the area has every byte of the scan
+  pub length-scan : length (scanOf r area) ≡ r .end
+  length-scan =
+      simp length-take
+      (omega (arith, held-within-room (b .well), Held.is-whole (heldFragments r) (b .whole) .sum, b .well .end, b .room))
+
+  pub scan-small : length (scanOf r area) ≤ 65536
+  scan-small = simp length-take (omega (arith, b .room, b .well .room))
+
+  -- there is a picture, with lawful header fields
+  pub picture-lawful : Lawful (headerOf r)
+  picture-lawful =
+      lawful (headerOf r)
+      (some-held (r .time) (r .«fragment_count») (headerOf r) (r .picture) (b .well .picture)
+      (λ z. never-both (b .whole) (rw z (Held.not-known 0 0 refl))))

@@ -1,0 +1,46 @@
+-- What the builder leaves of a whole picture. Assumes nothing.
+use Prim.Native.Nat.{ℕ, _≤_}
+use mathlib.Core.List.{List, _++_, append-assoc}
+use mathlib.Core.Path.{_≡_, sym, ap, _∙_}
+use native.Mathlib.Omega.{arith}
+use borrow.Author.Tests.{le-ltb}
+use lib.ListN.{length, take, drop}
+use Rattle.head.specs.Head.{head}
+use Rattle.laws.specs.Each.{Each}
+use Rattle.laws.specs.Truth.{same}
+use Rattle.replies.specs.Checks.{Numbered, judged, refused-by, start, passes, none-left}
+use Rattle.replies.specs.Output.{succeeded, decided-write, decided-refuse, success-wrote, wrote-front}
+use Rattle.replies.specs.Reply
+use Rattle.replies.specs.declared.Judged.the-variants.{Passed}
+use Rattle.replies.specs.declared.Written.{Written}
+use Rattle.state.specs.WellFormed.{is-well-formed}
+use Rattle.state.specs.declared.Receiver.{Receiver}
+use Rattle.builder.specs.Building.{Builds, Buildable, building, buildable, checks, frameOf, scanOf, fileOf}
+use Rattle.builder.specs.File.{body, closing, file}
+
+module _ (r : Receiver) (area : List ℕ) {before after : List ℕ} {w : Written} (builds : Builds r area before w after) where
+  module _ (b : Buildable r area) where
+    passed : judged (checks r area) ≡ Passed
+    passed = none-left (passes (passes (passes start (rw (is-well-formed r (b .well)))) (same (length area) (r .room) (b .room))) (rw (b .whole)))
+
+    -- The file of a whole picture is the head, then the scan, then the end, and where there is room for it, it is written.
+    pub whole-built : length (fileOf r area) ≤ length before → (w ≡ succeeded (length (fileOf r area))) × (after ≡ head (frameOf r) (r .tables) ++ scanOf r area ++ closing (scanOf r area) ++ drop (length (fileOf r area)) before)
+    unfolding building file body
+    whole-built fits =
+        let t = le-ltb (length before) (length (fileOf r area)) fits in
+        (rw (passed, t) at (builds .answer), rw (passed, t) at (builds .output) ∙ rw (append-assoc (head (frameOf r) (r .tables)) (scanOf r area) (closing (scanOf r area))))
+
+  -- no refusal has the number of success
+  numbered : Each (Numbered (λ (n : ℕ). n ≡ Reply.success → ⊥)) (checks r area)
+  numbered = (λ e. omega arith, (λ e. omega arith, (λ e. omega arith, tt)))
+
+  -- And success is answered for a whole picture alone, whose file then stands in front.
+  module _ (success : w .reply ≡ Reply.success) where
+    pub success-built : Buildable r area × (w .length ≡ length (fileOf r area)) × (take (w .length) after ≡ fileOf r area)
+    unfolding building
+    success-built =
+        let j = judged (checks r area) in
+        let bytes = fileOf r area in
+        let t = success-wrote builds success (λ e. omega arith) (λ n e z. refused-by (λ (n : ℕ). n ≡ Reply.success → ⊥) (checks r area) numbered (decided-refuse j bytes e) z) in
+        let d = decided-write j bytes (t .decision) in
+        (buildable r area (d .0), t .long ∙ ap length (sym (d .1)), wrote-front t ∙ sym (d .1))

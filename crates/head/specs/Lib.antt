@@ -1,0 +1,3 @@
+pub mod Segment
+pub mod Huffman
+pub mod Head

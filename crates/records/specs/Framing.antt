@@ -1,0 +1,64 @@
+-- Records of a stream, as RFC 4571 section 2 frames them: a length of two bytes, and a packet of so many. Assumes nothing.
+use Prim.Native.Nat.{ℕ, _+_, _-_, _≤_, _<_}
+use mathlib.Core.Bool.{Bool, true, false, cond}
+use mathlib.Core.List.{List}
+use mathlib.Core.Path.{_≡_}
+use native.Mathlib.Nat.{add-sub-cancel-left}
+use native.Mathlib.Omega.{arith}
+use borrow.Author.Tests.{lt-ltb, le-ltb, eq-eqb, ne-eqb}
+use lib.Dec.{eqb, ltb}
+use lib.ListN.{length, take, drop}
+use Rattle.wire.specs.Field.{field}
+
+-- the number in a record's length field
+abbrev pub packetLength : List ℕ → ℕ
+packetLength bytes = field bytes 0 2
+
+-- How many bytes a record has that begins so: the length field, and the packet once that field is there.
+unfoldable pub recordLength : List ℕ → ℕ
+recordLength bytes = cond (ltb (length bytes) 2) 2 (2 + packetLength bytes)
+
+-- What a stream that has these bytes left begins with: nothing at its end, a record that it ends in, or a complete one with its packet.
+pub data Front : Type 0 where
+  nothing : Front
+  cut : Front
+  packet : List ℕ → Front
+
+unfoldable pub front : List ℕ → Front
+front bytes =
+    cond (eqb (length bytes) 0) nothing
+    (cond (ltb (length bytes) (recordLength bytes)) cut
+    (packet (take (packetLength bytes) (drop 2 bytes))))
+
+-- The outcome of `length`.
+abbrev pub TellsLength : List ℕ → ℕ → Type 0
+TellsLength bytes n = n ≡ recordLength bytes
+
+-- ---- laws
+
+module _ (bytes : List ℕ) where
+  pub length-there : 2 ≤ length bytes → recordLength bytes ≡ 2 + packetLength bytes
+  unfolding recordLength
+  length-there h = rw (le-ltb (length bytes) 2 h)
+
+  -- a record has its length field at least
+  pub length-least : 2 ≤ recordLength bytes
+  unfolding recordLength
+  length-least = least (ltb (length bytes) 2)
+    where
+      least : (t : Bool) → 2 ≤ cond t 2 (2 + packetLength bytes)
+      least true = omega arith
+      least false = omega arith
+
+  pub front-nothing : length bytes ≡ 0 → front bytes ≡ nothing
+  unfolding front
+  front-nothing h = rw (eq-eqb (length bytes) 0 h)
+
+  module _ {n : ℕ} (some : length bytes ≡ 0 → ⊥) (told : TellsLength bytes n) where
+    pub front-cut : length bytes < n → front bytes ≡ cut
+    unfolding front
+    front-cut h = rw (ne-eqb (length bytes) 0 some, ← told, lt-ltb (length bytes) n h)
+
+    pub front-packet : {p : List ℕ} → n ≤ length bytes → p ≡ take (n - 2) (drop 2 bytes) → front bytes ≡ packet p
+    unfolding front
+    front-packet h e = rw (ne-eqb (length bytes) 0 some, ← told, le-ltb (length bytes) n h, e, told, length-there (omega (arith, length-least)), add-sub-cancel-left)
