@@ -1,6 +1,7 @@
-/* The receiver's cases of crates/vectors again, through C: `histories IN OUT` runs the lines of IN that open a receiver,
- * make one up, hand it packets or show it, and compares each, with its answer, with the same line of OUT. The comments of
+/* The receiver's and the builder's cases of crates/vectors again, through C: `histories IN OUT` runs the lines of IN that open a
+ * receiver, make one up, hand it packets, show it or build its file, and compares each, with its answer, with the same line of OUT. The comments of
  * IN say what each form gives. Lines about tables, packets or the receiver's parts by themselves are passed over. */
+#include "built.h"
 #include "received.h"
 
 #include <stdlib.h>
@@ -251,13 +252,25 @@ static int run_area(const char *at) {
     return there;
 }
 
+static int run_build(const char *at) {
+    uint32_t n[3];
+    const char *wrong;
+    if (!only_numbers(at, n, 3) || LENT_MOST + LENT_BEYOND < n[0] || n[0] < (uint64_t)n[1] + n[2]) return 0;
+    lj_written w = built(&receiver, area, area_len, n[0], (uint8_t)~7, &wrong);
+    if (wrong != NULL) stop(wrong);
+    say(w.reply);
+    say(w.length);
+    for (uint32_t i = 0; i < n[2]; i++) say(built_file()[n[1] + i]);
+    return 1;
+}
+
 static struct {
     const char *name;
     int (*run)(const char *);
     unsigned long lines;
 } kinds[] = {{"open", run_open, 0},   {"formed", run_formed, 0}, {"begin", run_begin, 0},     {"made", run_made, 0},
              {"take", run_take, 0},   {"shown", run_shown, 0},   {"pieces", run_pieces, 0},   {"entries", run_entries, 0},
-             {"store", run_store, 0}, {"area", run_area, 0}};
+             {"store", run_store, 0}, {"area", run_area, 0},     {"build", run_build, 0}};
 
 enum { KINDS = sizeof kinds / sizeof *kinds };
 

@@ -6,11 +6,12 @@
 #include <stdio.h>
 #include <string.h>
 
-enum { LENT_MOST = 65536, GUARD = 64 };
+/* LENT_MOST is the longest scan area. A file, and an area that is too long, go so much beyond it. */
+enum { LENT_MOST = 65536, LENT_BEYOND = 4464, GUARD = 64 };
 
 typedef struct {
-    uint8_t memory[GUARD + LENT_MOST + GUARD];
-    uint8_t wanted[GUARD + LENT_MOST + GUARD];
+    uint8_t memory[GUARD + LENT_MOST + LENT_BEYOND + GUARD];
+    uint8_t wanted[GUARD + LENT_MOST + LENT_BEYOND + GUARD];
     size_t length;
 } lent;
 

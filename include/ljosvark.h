@@ -19,8 +19,8 @@
 extern "C" {
 #endif
 
-/* The replies, of all calls. Those of a receiver and of a packet come from lj_receive; those of the file builder are kept for
- * it, and no call here gives them. The first packet of a picture is the one at offset 0 of its scan, whenever it arrives. */
+/* The replies, of all calls. Those of a packet come from lj_receive, those of a receiver from it or from lj_build. The first packet
+ * of a picture is the one at offset 0 of its scan, whenever it arrives. */
 enum {
     LJ_SUCCESS = 0,              /* done; where there is a length, it says how many bytes were written */
     LJ_HELD = 0,                 /* receiver: the packet is taken; the picture is not whole yet */
@@ -59,6 +59,9 @@ enum {
     LJ_INDEX_TOO_LARGE = 45,     /* sender: the picture has no packet k */
     LJ_PACKET_OUTPUT = 46        /* sender: the output is shorter than the packet */
 };
+
+/* The most bytes that a picture's file has beside its scan: a head of 611, and the two of the closing marker. */
+enum { LJ_FILE_BESIDE_SCAN = 613 };
 
 /* What a call that writes answers: a reply, and the length written, which is 0 with a refusal. */
 typedef struct {
@@ -173,7 +176,7 @@ lj_written lj_packet(uint32_t type, uint32_t q, uint32_t width, uint32_t height,
 
 /* A receiver of a source (SSRC), with a room of 1 to 65,536 bytes, which is the longest scan that it can take and the
  * length of the area that it is lent: LJ_SUCCESS, and it holds nothing. With any other room LJ_ROOM_OUTSIDE, and a receiver
- * of that source with room 0, to which lj_receive answers LJ_NOT_WELL_FORMED. */
+ * of that source with room 0, to which lj_receive and lj_build answer LJ_NOT_WELL_FORMED. */
 lj_opened lj_open(uint32_t source, uint32_t room);
 
 /* Takes a packet, as it came from the network, into the picture that it is for. With LJ_HELD and LJ_WHOLE the receiver
@@ -197,6 +200,18 @@ lj_opened lj_open(uint32_t source, uint32_t room);
  * header, tables), LJ_TABLE_RULE, LJ_NO_SCAN, LJ_PAST, LJ_UNLIKE, LJ_BEYOND, LJ_AGAIN (which is no fault) or LJ_CLASH,
  * LJ_FULL, LJ_BARE. */
 lj_answer lj_receive(lj_receiver *receiver, uint8_t *area, size_t area_len, const uint8_t *packet, size_t packet_len);
+
+/* The file of a whole picture, for a JPEG decoder: the headers of RFC 2435 Appendix B and T.81, 605 bytes, or 611 with a restart
+ * interval; the scan, byte for byte; and the marker FF D9, unless the scan's last two bytes are that already. It is the first bytes
+ * of out, and out past them stays as it was.
+ *
+ *   r            a receiver after LJ_WHOLE, until a newer picture starts; it is handed over by value and stays as it is
+ *   area         its area, as the last call left it; it is read alone
+ *   out          end + LJ_FILE_BESIDE_SCAN bytes are always enough, and so are room + LJ_FILE_BESIDE_SCAN; it must not overlap
+ *                the area
+ *
+ * Refusals, in this order: LJ_NOT_WELL_FORMED, LJ_AREA_NOT_ROOM, LJ_NOT_WHOLE, LJ_FILE_OUTPUT. */
+lj_written lj_build(lj_receiver r, const uint8_t *area, size_t area_len, uint8_t *out, size_t out_len);
 
 #ifdef __cplusplus
 }

@@ -1,0 +1,787 @@
+/* lj_build against a second builder, from document 01, RFC 2435 and T.81: it goes down a list of the file's segments, lets
+ * each put what it holds, and takes all lengths from that. Of the Huffman tables it has only what follows no rule. The
+ * receivers take pictures that lj_packet sends, or are written over in ways of which document 01 says plainly what they
+ * make of a receiver. The first argument, if there is one, is the seed of all that is chosen by chance. */
+#include "built.h"
+#include "chance.h"
+#include "quantiser.h"
+#include "received.h"
+
+#include <inttypes.h>
+
+_Static_assert(LJ_SUCCESS == 0 && LJ_AREA_NOT_ROOM == 8 && LJ_NOT_WELL_FORMED == 9 && LJ_NOT_WHOLE == 30 &&
+                   LJ_FILE_OUTPUT == 31 && LJ_FILE_BESIDE_SCAN == 611 + 2,
+               "the header's numbers are document 01's");
+
+enum { FILE_MOST = 611 + 65536 + 2, LENGTH_MOST = LENT_MOST + LENT_BEYOND, HISTORIES = 1500 };
+
+/* What one call is given, and what is known of the receiver from the way in which it was made. */
+typedef struct {
+    lj_receiver receiver;
+    int broken, whole;
+    size_t area_len, out_len;
+} call;
+
+/* The area of the receiver at hand, and noise behind it; what is lent is a copy. */
+static uint8_t area[LENGTH_MOST], noise[4 * 65536];
+
+/* ---- The second builder ---- */
+
+typedef struct {
+    uint8_t bytes[FILE_MOST];
+    size_t length;
+} file;
+
+static void put(file *f, uint32_t byte) { f->bytes[f->length++] = (uint8_t)byte; }
+
+static void put_two(file *f, uint32_t n) {
+    put(f, n >> 8);
+    put(f, n & 255);
+}
+
+static void put_bytes(file *f, const uint8_t *from, size_t length) {
+    memcpy(f->bytes + f->length, from, length);
+    f->length += length;
+}
+
+static void quantiser(file *f, const lj_receiver *r, unsigned number) {
+    put(f, number); /* with 0 in the upper half: entries of 8 bits */
+    put_bytes(f, r->tables + 64 * number, 64);
+}
+
+static void interval(file *f, const lj_receiver *r, unsigned number) {
+    (void)number;
+    if (r->interval != 0) put_two(f, r->interval);
+}
+
+/* Sides in pixels. Luma has twice the chroma's samples across, and by types 1 and 65 also down. */
+static void frame(file *f, const lj_receiver *r, unsigned number) {
+    (void)number;
+    put(f, 8);
+    put_two(f, 8 * r->height);
+    put_two(f, 8 * r->width);
+    put(f, 3);
+    for (unsigned component = 0; component < 3; component++) {
+        put(f, component);
+        put(f, component ? 0x11 : r->kind % 2 ? 0x22 : 0x21);
+        put(f, component ? 1 : 0);
+    }
+}
+
+static void dc_codes(file *f, const lj_receiver *r, unsigned number) {
+    static const uint8_t counts[2][16] = {{0, 1, 5, 1, 1, 1, 1, 1, 1}, {0, 3, 1, 1, 1, 1, 1, 1, 1, 1, 1}};
+    (void)r;
+    put(f, number);
+    put_bytes(f, counts[number], 16);
+    for (unsigned size = 0; size <= 11; size++) put(f, size);
+}
+
+/* Each run of 0 to 15 zeros with a size of 1 to 10 behind it, the end of a block, and 16 zeros. */
+static int is_ac_symbol(unsigned symbol) {
+    unsigned size = symbol % 16;
+    return (1 <= size && size <= 10) || symbol == 0x00 || symbol == 0xf0;
+}
+
+/* The codes of up to 15 bits go to the symbols that T.81 found to be frequent; those of 16 bits to all others, rising. */
+static void ac_codes(file *f, const lj_receiver *r, unsigned number) {
+    static const uint8_t counts[2][16] = {{0, 2, 1, 3, 3, 2, 4, 3, 5, 5, 4, 4, 0, 0, 1, 125},
+                                          {0, 2, 1, 2, 4, 4, 3, 4, 7, 5, 4, 4, 0, 1, 2, 119}};
+    static const uint8_t luma[] = {0x01, 0x02, 0x03, 0x00, 0x04, 0x11, 0x05, 0x12, 0x21, 0x31, 0x41, 0x06, 0x13,
+                                   0x51, 0x61, 0x07, 0x22, 0x71, 0x14, 0x32, 0x81, 0x91, 0xa1, 0x08, 0x23, 0x42,
+                                   0xb1, 0xc1, 0x15, 0x52, 0xd1, 0xf0, 0x24, 0x33, 0x62, 0x72, 0x82};
+    static const uint8_t chroma[] = {0x00, 0x01, 0x02, 0x03, 0x11, 0x04, 0x05, 0x21, 0x31, 0x06, 0x12,
+                                     0x41, 0x51, 0x07, 0x61, 0x71, 0x13, 0x22, 0x32, 0x81, 0x08, 0x14,
+                                     0x42, 0x91, 0xa1, 0xb1, 0xc1, 0x09, 0x23, 0x33, 0x52, 0xf0, 0x15,
+                                     0x62, 0x72, 0xd1, 0x0a, 0x16, 0x24, 0x34, 0xe1, 0x25, 0xf1};
+    const uint8_t *frequent = number ? chroma : luma;
+    size_t length = number ? sizeof chroma : sizeof luma;
+    uint8_t has_code[256] = {0};
+    (void)r;
+    put(f, 1 << 4 | number);
+    put_bytes(f, counts[number], 16);
+    put_bytes(f, frequent, length);
+    for (size_t i = 0; i < length; i++) has_code[frequent[i]] = 1;
+    for (unsigned symbol = 0; symbol < 256; symbol++)
+        if (is_ac_symbol(symbol) && !has_code[symbol]) put(f, symbol);
+}
+
+static void scan_header(file *f, const lj_receiver *r, unsigned number) {
+    (void)r;
+    (void)number;
+    put(f, 3);
+    for (unsigned component = 0; component < 3; component++) {
+        put(f, component);
+        put(f, component ? 0x11 : 0x00); /* the DC table in the upper half, the AC table in the lower */
+    }
+    put(f, 0);
+    put(f, 63);
+    put(f, 0);
+}
+
+typedef struct {
+    uint8_t marker;
+    void (*hold)(file *, const lj_receiver *, unsigned);
+    unsigned number;
+} segment;
+
+static const segment segments[] = {{0xdb, quantiser, 0}, {0xdb, quantiser, 1}, {0xdd, interval, 0},
+                                   {0xc0, frame, 0},     {0xc4, dc_codes, 0},  {0xc4, ac_codes, 0},
+                                   {0xc4, dc_codes, 1},  {0xc4, ac_codes, 1},  {0xda, scan_header, 0}};
+
+/* A segment's length counts itself and not the marker. One that holds nothing is left out. */
+static void put_segment(file *f, const lj_receiver *r, const segment *s) {
+    size_t start = f->length;
+    put_two(f, 0xff00u | s->marker);
+    put_two(f, 0);
+    s->hold(f, r, s->number);
+    size_t length = f->length - start - 2;
+    f->bytes[start + 2] = (uint8_t)(length >> 8);
+    f->bytes[start + 3] = (uint8_t)length;
+    if (length == 2) f->length = start;
+}
+
+static void write_file(file *f, const lj_receiver *r) {
+    f->length = 0;
+    put_two(f, 0xffd8);
+    for (size_t i = 0; i < COUNT(segments); i++) put_segment(f, r, &segments[i]);
+    put_bytes(f, area, r->end);
+    if (r->end < 2 || memcmp(area + r->end - 2, "\xff\xd9", 2) != 0) put_two(f, 0xffd9);
+}
+
+static lj_written second(const call *c, file *f) {
+    if (c->broken) return (lj_written){9, 0};
+    if (c->area_len != c->receiver.room) return (lj_written){8, 0};
+    if (!c->whole) return (lj_written){30, 0};
+    write_file(f, &c->receiver);
+    if (c->out_len < f->length) return (lj_written){31, 0};
+    return (lj_written){0, (uint32_t)f->length};
+}
+
+/* ---- Comparing ---- */
+
+static uint64_t seed;
+static unsigned long compared, replies[LJ_FILE_OUTPUT + 1];
+static file theirs;
+
+/* The first difference ends the program, so that no caller has to hand it on. */
+static _Noreturn void stop(const call *c, const char *why) {
+    const lj_receiver *r = &c->receiver;
+    printf("files differ: %s\n  seed %" PRIu64 ", case %lu; area of %zu bytes, output of %zu; made %s, %s\n", why, seed,
+           compared, c->area_len, c->out_len, c->broken ? "not well formed" : "well formed",
+           c->whole ? "whole" : "not whole");
+    printf("  room %" PRIu32 ", picture %" PRIu32 ", time %" PRIu32 ", type %" PRIu32 ", q %" PRIu32 ", %" PRIu32
+           " by %" PRIu32 ", interval %" PRIu32 ", end %" PRIu32 ", whole %" PRIu32 ", kept q %" PRIu32 "\n",
+           r->room, r->picture, r->time, r->kind, r->q, r->width, r->height, r->interval, r->end, r->whole, r->kept.q);
+    printf("  %" PRIu32 " fragments (offset, length, marker):", r->fragment_count);
+    for (uint32_t i = 0; i < 64 && i < r->fragment_count; i++) {
+        lj_fragment f = r->fragments[i];
+        printf(" (%" PRIu32 ", %" PRIu32 ", %" PRIu32 ")", f.offset, f.length, f.marker);
+    }
+    printf("\n");
+    if (2 <= r->end && r->end <= sizeof area) printf("  scan ends in %02x %02x\n", area[r->end - 2], area[r->end - 1]);
+    exit(1);
+}
+
+static void compare_answers(const call *c, lj_written ours, lj_written right) {
+    if (ours.reply == right.reply && ours.length == right.length) return;
+    printf("files: reply %" PRIu32 " length %" PRIu32 " and not %" PRIu32 " length %" PRIu32 "\n", ours.reply,
+           ours.length, right.reply, right.length);
+    stop(c, "the answer is another one");
+}
+
+static void compare_files(const call *c, const uint8_t *ours, size_t length) {
+    if (memcmp(ours, theirs.bytes, length) == 0) return;
+    size_t at = 0;
+    while (ours[at] == theirs.bytes[at]) at++;
+    printf("files: byte %zu is %02x and not %02x\n", at, ours[at], theirs.bytes[at]);
+    stop(c, "the file is another one");
+}
+
+/* One comparison; answers what both builders answered. The second's file, if there is one, is in `theirs`. */
+static lj_written same(const call *c, uint8_t fill) {
+    const char *wrong;
+    lj_written right = second(c, &theirs), ours = built(&c->receiver, area, c->area_len, c->out_len, fill, &wrong);
+    compared++;
+    replies[right.reply]++;
+    compare_answers(c, ours, right);
+    if (wrong != NULL) stop(c, wrong);
+    compare_files(c, built_file(), right.length);
+    return right;
+}
+
+/* A case whose answer is stated, so that both builders being wrong alike shows too. Two fills, so that a byte written as
+ * it was before shows in one of them. */
+static void stated(const call *c, uint32_t reply, size_t length) {
+    lj_written answered = same(c, 0x00);
+    same(c, 0xa5);
+    if (answered.reply == reply && answered.length == length) return;
+    printf("files: stated is reply %" PRIu32 " length %zu, and both answer %" PRIu32 " length %" PRIu32 "\n", reply,
+           length, answered.reply, answered.length);
+    stop(c, "both builders from what is stated");
+}
+
+/* A whole picture whose file has so many bytes: in an output of just that length, of one byte less, of more, of still
+ * less, and of none. Of the long files, which take most of the time, only the first two. */
+static void stated_length(call c, size_t length) {
+    const size_t outputs[] = {length, length - 1, length + 1, length + 700, length - 2, 605, 0};
+    for (size_t i = 0; i < (length < 60000 ? COUNT(outputs) : 2); i++) {
+        c.out_len = outputs[i];
+        if (length <= c.out_len) stated(&c, 0, length);
+        else stated(&c, 31, 0);
+    }
+}
+
+/* ---- Receivers that are written down ---- */
+
+static void fill_area(void) { memcpy(area, noise + below(sizeof noise - LENGTH_MOST), LENGTH_MOST); }
+
+static void random_tables(uint8_t *tables) {
+    for (int i = 0; i < 128; i++) tables[i] = (uint8_t)between(1, 255);
+}
+
+static void tables_for(uint32_t q, uint8_t *tables) {
+    if (q <= 99) tables_made(q, tables);
+    else random_tables(tables);
+}
+
+/* The whole scan in so many fragments, or one for each byte where it has fewer. */
+static void cut_scan(lj_receiver *r, uint32_t end, uint32_t count) {
+    uint32_t at = 0;
+    if (end < count) count = end;
+    memset(r->fragments, 0, sizeof r->fragments);
+    for (uint32_t i = 0; i < count; i++) {
+        uint32_t most = end - at - (count - 1 - i);
+        uint32_t length = i + 1 == count ? most : between(1, most < 2 * (end / count) ? most : 2 * (end / count));
+        r->fragments[i] = (lj_fragment){at, length, i + 1 == count};
+        at += length;
+    }
+    r->fragment_count = count;
+    r->end = end;
+}
+
+/* A whole picture of this type and Q in a room that its scan fills. The scan is what stands in the area. */
+static call whole_picture(uint32_t type, uint32_t q, uint32_t scan_len) {
+    call c = {.receiver = {.source = 7, .room = scan_len, .picture = 1, .time = any(), .kind = type, .q = q,
+                           .width = 40, .height = 30, .interval = type >= 64 ? 0x1234 : 0, .whole = 1},
+              .whole = 1, .area_len = scan_len, .out_len = 700 + scan_len};
+    cut_scan(&c.receiver, scan_len, between(1, 64));
+    tables_for(q, c.receiver.tables);
+    return c;
+}
+
+static void give_room(call *c, uint32_t room) {
+    c->receiver.room = room;
+    c->area_len = room;
+}
+
+static size_t head_length(const lj_receiver *r) { return r->kind < 64 ? 605 : 611; }
+
+static const uint32_t types[] = {0, 1, 64, 65}, qs[] = {1, 50, 99, 128, 254, 255};
+
+/* ---- Limits ---- */
+
+static const struct {
+    uint8_t bytes[4];
+    uint32_t length;
+    size_t eoi; /* how many bytes of EOI are to follow */
+} endings[] = {{{0xff, 0xd9}, 2, 0},       {{0xff}, 1, 2},
+               {{0xd9}, 1, 2},             {{0x00, 0xd9}, 2, 2},
+               {{0xff, 0xff}, 2, 2},       {{0xd9, 0xff}, 2, 2},
+               {{0xd9, 0xd9}, 2, 2},       {{0xff, 0xd8}, 2, 2},
+               {{0xff, 0xda}, 2, 2},       {{0xfe, 0xd9}, 2, 2},
+               {{0xff, 0xff, 0xd9}, 3, 0}, {{0xff, 0xd9, 0x00}, 3, 2},
+               {{0xff, 0x00, 0xd9}, 3, 2}, {{0xff, 0xd9, 0xff}, 3, 2},
+               {{0x00}, 1, 2},             {{0xff, 0xd9, 0xff, 0xd9}, 4, 0}};
+
+/* In a longer room too, where FF D9, D9 or FF stand behind the scan, which are not to be taken for the scan's. */
+static void try_rooms(call c, size_t length) {
+    static const uint8_t behind[][2] = {{0xff, 0xd9}, {0xd9, 0xff}, {0xff, 0xff}};
+    uint32_t end = c.receiver.end;
+    stated_length(c, length);
+    for (size_t i = 0; i < COUNT(behind) && end + 2 <= 65536; i++) {
+        memcpy(area + end, behind[i], 2);
+        give_room(&c, end + (below(2) ? 1 : 2));
+        stated(&c, 0, length);
+    }
+}
+
+/* A scan that is its ending alone, or has so many bytes in front of it. */
+static void try_endings(void) {
+    static const uint32_t fronts[] = {0, 1, 2, 100, 2999};
+    for (size_t t = 0; t < COUNT(types); t++)
+        for (size_t e = 0; e < COUNT(endings); e++)
+            for (size_t f = 0; f <= COUNT(fronts); f++) {
+                uint32_t front = f < COUNT(fronts) ? fronts[f] : 65536 - endings[e].length;
+                fill_area();
+                if (front != 0) area[front - 1] = 0x7f; /* so that the ending is all that counts */
+                memcpy(area + front, endings[e].bytes, endings[e].length);
+                call c = whole_picture(types[t], ONE_OF(qs), front + endings[e].length);
+                try_rooms(c, head_length(&c.receiver) + c.receiver.end + endings[e].eoi);
+            }
+}
+
+/* Each length of a scan to 1,300, and the longest ones. No byte of it is FF, and so EOI always follows. */
+static void try_lengths(void) {
+    fill_area();
+    for (size_t i = 0; i < sizeof area; i++)
+        if (area[i] == 0xff) area[i] = 0xfe;
+    for (uint32_t n = 1; n <= 1310; n++) {
+        uint32_t end = n <= 1300 ? n : 65536 + 1300 - n + 1;
+        call c = whole_picture(ONE_OF(types), ONE_OF(qs), end);
+        c.out_len = head_length(&c.receiver) + end + 2;
+        stated(&c, 0, c.out_len);
+        c.out_len -= 1;
+        stated(&c, 31, 0);
+    }
+}
+
+/* Each width and each height, each Q, and intervals of which both bytes count. */
+static void try_fields(void) {
+    static const uint32_t intervals[] = {1, 2, 127, 128, 254, 255, 256, 257, 511, 512, 0x00ff, 0xff00, 65534, 65535};
+    fill_area();
+    area[19] = 0;
+    for (uint32_t n = 1; n <= 255; n++)
+        for (size_t t = 0; t < COUNT(types); t++) {
+            uint32_t q = n <= 99 || 128 <= n ? n : 255;
+            call c = whole_picture(types[t], q, 20);
+            c.receiver.width = n;
+            c.receiver.height = n % 2 ? 256 - n : 1 + below(255);
+            if (types[t] >= 64) c.receiver.interval = n % 3 ? ONE_OF(intervals) : between(1, 65535);
+            stated(&c, 0, head_length(&c.receiver) + 20 + 2);
+        }
+}
+
+/* ---- By hand ---- */
+
+static lj_answer taken(call *c, const uint8_t *packet, size_t length) {
+    const char *wrong;
+    lj_answer a = received(&c->receiver, area, c->receiver.room, packet, length, (uint8_t)any(), &wrong);
+    if (wrong != NULL) stop(c, wrong);
+    return a;
+}
+
+/* What stands at fixed places in the file of document 01's example: all of the head but tables' contents past their
+ * beginnings, with the lengths worked out by hand. */
+static void try_places(const call *c) {
+    static const struct {
+        size_t at;
+        const char *bytes;
+        size_t length;
+    } places[] = {
+#define PLACE(at, bytes) {at, bytes, sizeof(bytes) - 1}
+        PLACE(0, "\xff\xd8\xff\xdb\x00\x43\x00\x10\x0b\x0c\x0e\x0c\x0a\x10\x0e"),
+        PLACE(71, "\xff\xdb\x00\x43\x01\x11\x12\x12\x18\x15\x18\x2f\x1a"),
+        PLACE(140, "\xff\xc0\x00\x11\x08\x00\x10\x00\x10\x03\x00\x22\x00\x01\x11\x01\x02\x11\x01"),
+        PLACE(159, "\xff\xc4\x00\x1f\x00\x00\x01\x05\x01\x01\x01\x01\x01\x01\x00\x00\x00\x00\x00\x00\x00"
+                   "\x00\x01\x02\x03\x04\x05\x06\x07\x08\x09\x0a\x0b"),
+        PLACE(192, "\xff\xc4\x00\xb5\x10\x00\x02\x01\x03\x03\x02\x04\x03\x05\x05\x04\x04\x00\x00\x01\x7d\x01\x02\x03"),
+        PLACE(375, "\xff\xc4\x00\x1f\x01\x00\x03\x01\x01\x01\x01\x01\x01\x01\x01\x01\x00\x00\x00\x00\x00"
+                   "\x00\x01\x02\x03\x04\x05\x06\x07\x08\x09\x0a\x0b"),
+        PLACE(408, "\xff\xc4\x00\xb5\x11\x00\x02\x01\x02\x04\x04\x03\x04\x07\x05\x04\x04\x00\x01\x02\x77\x00\x01\x02"),
+        PLACE(591, "\xff\xda\x00\x0c\x03\x00\x00\x01\x11\x02\x11\x00\x3f\x00\xaa\xbb\xcc\xdd\xff\xd9")
+#undef PLACE
+    };
+    for (size_t i = 0; i < COUNT(places); i++)
+        if (memcmp(theirs.bytes + places[i].at, places[i].bytes, places[i].length) != 0) {
+            printf("files: both from what is written out by hand for byte %zu and those behind it\n", places[i].at);
+            stop(c, "document 01's example");
+        }
+}
+
+/* Document 01's example: its four packets, their replies, and 611 bytes of file once the third is in. */
+static void try_example(void) {
+    static const uint8_t last[] = {0x80, 0x9a, 0, 1, 0, 0, 3, 0xe8, 0, 0, 0, 1, 0, 0, 0, 2, 1, 50, 2, 2, 0xcc, 0xdd};
+    static const uint8_t first[] = {0x80, 0x1a, 0, 0, 0, 0, 3, 0xe8, 0, 0, 0, 1, 0, 0, 0, 0, 1, 50, 2, 2, 0xaa, 0xbb};
+    static const struct {
+        const uint8_t *packet;
+        uint32_t reply, held, file;
+    } steps[] = {{last, 0, 2, 0}, {last, 2, 2, 0}, {first, 1, 4, 611}, {first, 22, 4, 611}};
+    call c = {.receiver = lj_open(1, 32768).receiver, .area_len = 32768, .out_len = 611};
+    fill_area();
+    stated(&c, 30, 0);
+    for (size_t i = 0; i < COUNT(steps); i++) {
+        lj_answer a = taken(&c, steps[i].packet, sizeof first);
+        c.whole = steps[i].file != 0;
+        if (a.reply != steps[i].reply || a.held != steps[i].held) stop(&c, "a packet of document 01 has another answer");
+        stated(&c, c.whole ? 0 : 30, steps[i].file);
+        if (c.whole) try_places(&c);
+    }
+    stated_length(c, 611);
+}
+
+/* ---- Receivers that are not well formed ---- */
+
+/* Each of these breaks a rule of "Well formed", or answers 0 where the receiver has nothing of that kind. */
+
+static int break_room(lj_receiver *r) {
+    static const uint32_t rooms[] = {0, 0, 65537, 65537, 2 * 65536, UINT32_MAX};
+    r->room = ONE_OF(rooms);
+    return 1;
+}
+
+static int break_flags(lj_receiver *r) {
+    static const uint32_t others[] = {2, 3, 256, 1u << 31, UINT32_MAX};
+    switch (below(4)) {
+    case 0: r->whole ^= 1; break;
+    case 1: r->whole = ONE_OF(others); break;
+    case 2: r->picture ^= 1; break; /* fields that are not 0 without a picture, or Q 0 and sides of 0 with one */
+    default: r->picture = ONE_OF(others);
+    }
+    return 1;
+}
+
+/* One less leaves a fragment in an unused place, one more takes an unused place for a fragment; without any, 65 and more
+ * are still too many. */
+static int break_count(lj_receiver *r) {
+    static const uint32_t counts[] = {65, 66, 256, UINT32_MAX};
+    uint32_t choice = below(3), count = r->fragment_count;
+    if (choice == 0 && count != 0) r->fragment_count = count - 1;
+    else if (choice == 1) r->fragment_count = count + 1;
+    else r->fragment_count = ONE_OF(counts);
+    return 1;
+}
+
+static int break_unused(lj_receiver *r) {
+    if (r->fragment_count == 64) return 0;
+    lj_fragment *f = &r->fragments[below(2) ? r->fragment_count : between(r->fragment_count, 63)];
+    *(below(3) == 0 ? &f->offset : below(2) ? &f->length : &f->marker) = 1;
+    return 1;
+}
+
+static int break_end(lj_receiver *r) {
+    if (below(2)) r->end += 1;
+    else r->end = r->end == 0 ? r->room : r->end - 1;
+    return 1;
+}
+
+/* What a packet that the reader takes cannot say. */
+static int break_header(lj_receiver *r) {
+    static const uint32_t kinds[] = {2, 63, 66, 128, 256, 256 + 64}, sides[] = {0, 256, 65536 + 9};
+    static const uint32_t reserved[] = {0, 100, 127, 256, 256 + 50};
+    if (r->picture == 0) return 0;
+    switch (below(5)) {
+    case 0: r->kind = ONE_OF(kinds); break;
+    case 1: r->q = ONE_OF(reserved); break;
+    case 2: r->width = ONE_OF(sides); break;
+    case 3: r->height = ONE_OF(sides); break;
+    default: r->interval = r->kind < 64 ? between(1, 65535) : below(2) ? 0 : 65536 + below(9);
+    }
+    return 1;
+}
+
+/* Without a picture every number of one is 0. */
+static int break_nothing(lj_receiver *r) {
+    uint32_t *fields[] = {&r->time, &r->kind, &r->q, &r->width, &r->height, &r->interval};
+    if (r->picture == 1) return 0;
+    *ONE_OF(fields) = between(1, 64);
+    return 1;
+}
+
+/* Fragments without bytes, over each other, beyond the room, or with a marker that is none or in the wrong place. */
+static int break_fragments(lj_receiver *r) {
+    if (r->fragment_count == 0) return 0;
+    lj_fragment *first = r->fragments, *last = first + r->fragment_count - 1, *some = first + below(r->fragment_count);
+    switch (below(7)) {
+    case 0: some->length = 0; break;
+    case 1: some->marker = 2; break;
+    case 2: last->marker ^= 1; break;
+    case 3: last->offset = r->room; break;
+    case 4: last->offset = 0 - last->length; break;
+    case 5: first->marker = first == last ? 2 : 1; break;
+    default:
+        if (some == first) return 0;
+        some->offset = some[-1].offset + some[-1].length - 1;
+    }
+    return 1;
+}
+
+static int break_inside(lj_receiver *r) {
+    if (r->fragment_count == 0) return 0;
+    lj_fragment last = r->fragments[r->fragment_count - 1];
+    uint32_t reach = last.offset + last.length;
+    if (reach == 1) return 0;
+    r->room = below(2) ? reach - 1 : between(1, reach - 1);
+    return 1;
+}
+
+/* A 0 among tables, or what is not made for this Q; where there are none yet, or no picture, an entry that is not 0. */
+static int break_tables(lj_receiver *r) {
+    uint8_t *entry = &r->tables[below(128)];
+    int there = r->fragment_count != 0 && r->fragments[0].offset == 0;
+    *entry = !there ? (uint8_t)between(1, 255) : r->q <= 99 && below(2) ? *entry + 1 : 0;
+    return 1;
+}
+
+static int break_kept(lj_receiver *r) {
+    static const uint32_t none[] = {1, 50, 99, 127, 255, 256, 256 + 128, UINT32_MAX};
+    if (below(2)) r->kept.q = ONE_OF(none);
+    else r->kept.tables[below(128)] = r->kept.q == 0 ? (uint8_t)between(1, 255) : 0;
+    return 1;
+}
+
+static int (*const breaks[])(lj_receiver *) = {break_room,   break_flags,  break_count,   break_unused,
+                                               break_end,    break_header, break_nothing, break_fragments,
+                                               break_inside, break_tables, break_kept};
+
+static void break_receiver(lj_receiver *r) {
+    while (!ONE_OF(breaks)(r)) continue;
+}
+
+/* ---- Changes that leave a receiver well formed ---- */
+
+static void change_header(lj_receiver *r) {
+    switch (below(4)) {
+    case 0: r->width = between(1, 255); break;
+    case 1: r->height = between(1, 255); break;
+    case 2: r->kind ^= 1; break;
+    default: r->kind ^= below(2) ? 64 : 0;
+    }
+    r->interval = r->kind < 64 ? 0 : between(1, below(2) ? 65535 : 300);
+}
+
+/* Another Q with tables for it, where the first packet is in. */
+static void change_q(lj_receiver *r) {
+    r->q = below(3) == 0 ? between(1, 99) : between(128, 255);
+    if (r->tables[0] != 0) tables_for(r->q, r->tables);
+}
+
+/* Whether or not they are the picture's: that is not tested. */
+static void change_kept(lj_kept *kept) {
+    memset(kept, 0, sizeof *kept);
+    if (below(3) == 0) return;
+    kept->q = between(128, 254);
+    random_tables(kept->tables);
+}
+
+static void change_lawfully(call *c) {
+    lj_receiver *r = &c->receiver;
+    switch (below(6)) {
+    case 0: r->source = any(); break;
+    case 1: change_kept(&r->kept); break;
+    case 2: give_room(c, below(8) == 0 ? 65536 : between(r->room, r->room < 65000 ? r->room + 500 : 65536)); break;
+    case 3:
+        if (r->picture) r->time = any();
+        break;
+    case 4:
+        if (r->picture) change_header(r);
+        break;
+    default:
+        if (r->picture) change_q(r);
+    }
+    if (c->whole && below(4) == 0) cut_scan(r, r->end, between(1, 64));
+}
+
+/* ---- Receivers that pictures came to ---- */
+
+typedef struct {
+    uint32_t type, q, width, height, interval;
+    uint8_t tables[128];
+    size_t tables_len;
+    uint32_t scan_len, packet_size, time;
+} picture;
+
+static uint8_t scan[65536];
+
+static uint32_t chosen_length(uint32_t room) {
+    static const uint32_t most[] = {3, 60, 700, 700, 4000, 4000, 65536};
+    uint32_t m = ONE_OF(most);
+    return below(8) == 0 ? room : between(1, m < room ? m : room);
+}
+
+/* Noise with one of the endings, or without. */
+static void choose_scan(uint32_t length) {
+    size_t e = below(COUNT(endings));
+    memcpy(scan, noise + below(sizeof noise - 65536), length);
+    if (below(2) && endings[e].length <= length)
+        memcpy(scan + length - endings[e].length, endings[e].bytes, endings[e].length);
+}
+
+/* A picture that this receiver takes, and sometimes one for which it has kept the tables. */
+static picture chosen_picture(const lj_receiver *r) {
+    picture p = {.type = ONE_OF(types), .q = below(3) == 0 ? between(1, 99) : below(2) ? 255 : between(128, 254)};
+    p.width = between(1, 255);
+    p.height = between(1, 255);
+    if (p.type >= 64) p.interval = between(1, below(2) ? 65535 : 300);
+    if (r->kept.q != 0 && below(2)) p.q = r->kept.q;
+    random_tables(p.tables);
+    p.tables_len = p.q <= 99 || (p.q == r->kept.q && below(2)) ? 0 : 128;
+    p.scan_len = chosen_length(r->room);
+    p.packet_size = 6000 < p.scan_len ? between(1200, 1472) : between(192, below(2) ? 260 : 1472);
+    p.time = r->picture ? r->time + between(1, INT32_MAX) : any();
+    return p;
+}
+
+typedef struct {
+    uint8_t bytes[1472];
+    size_t length;
+} packet;
+
+static int sent(const picture *p, uint32_t source, uint32_t k, packet *out) {
+    lj_written w = lj_packet(p->type, p->q, p->width, p->height, p->interval, p->tables, p->tables_len, scan, p->scan_len,
+                             p->packet_size, (uint16_t)any(), p->time, source, k, out->bytes, sizeof out->bytes);
+    out->length = w.length;
+    return w.reply == LJ_SUCCESS;
+}
+
+/* The picture's packets in any order, all of them or not, but at least one. */
+static void deliver(call *c, const picture *p, int all) {
+    static packet packets[64];
+    uint32_t order[64], count = 0;
+    for (; count < 64 && sent(p, c->receiver.source, count, &packets[count]); count++) order[count] = count;
+    uint32_t missing = all || count < 2 ? 0 : between(1, count - 1);
+    if (count == 0) stop(c, "the sender refuses a picture");
+    for (uint32_t n = count; n > missing; n--) {
+        uint32_t i = below(n), k = order[i];
+        order[i] = order[n - 1];
+        lj_answer a = taken(c, packets[k].bytes, packets[k].length);
+        c->whole = n == 1;
+        if (a.reply != (n == 1 ? LJ_WHOLE : LJ_HELD)) stop(c, "the receiver does not take a picture as it should");
+    }
+    if (c->whole && memcmp(area, scan, p->scan_len) != 0) stop(c, "the area does not hold the scan that was sent");
+}
+
+/* A receiver that took one picture to three; the last one is whole, or not. */
+static call reached(void) {
+    static const uint32_t rooms[] = {4, 700, 700, 700, 4096, 4096};
+    uint32_t room = below(64) == 0 ? 65536 : between(1, ONE_OF(rooms));
+    call c = {.receiver = lj_open(any(), room).receiver, .area_len = room};
+    fill_area();
+    for (uint32_t pictures = below(16) ? between(1, 3) : 0; pictures > 0; pictures--) {
+        picture p = chosen_picture(&c.receiver);
+        choose_scan(p.scan_len);
+        deliver(&c, &p, below(3) != 0);
+    }
+    return c;
+}
+
+/* ---- Several faults at once ---- */
+
+enum { NOT_FORMED = 1, NOT_ROOM = 2, TOO_SHORT = 4, SETS = 8 };
+
+static size_t other_area(const lj_receiver *r) {
+    size_t others[] = {r->room - 1, (size_t)r->room + 1, 0, r->end, below(2000), below(16) ? 1 : 65536};
+    for (;;) {
+        size_t length = ONE_OF(others);
+        if (length != r->room && length <= LENGTH_MOST) return length;
+    }
+}
+
+/* Around the file's length, where there is one, and else around any. */
+static size_t chosen_output(const call *c, int too_short) {
+    size_t length = 605 + below(2000);
+    if (c->whole) {
+        write_file(&theirs, &c->receiver);
+        length = theirs.length;
+    }
+    const size_t shorter[] = {length - 1, length - 1, length - 2, 605, 604, 0, below((uint32_t)length)};
+    const size_t longer[] = {length, length, length + 1, length + below(700), below(16) ? length : LENGTH_MOST};
+    size_t chosen = too_short ? ONE_OF(shorter) : ONE_OF(longer);
+    return too_short && length <= chosen ? length - 1 : chosen;
+}
+
+/* Whether lj_receive takes the receiver for well formed: the two calls must agree, and compare/states.c holds that one to
+ * all of document 01's rules. No packet at all is refused by every receiver, and changes nothing. */
+static int formed_to_receive(lj_receiver r) { return lj_receive(&r, NULL, 0, NULL, 0).reply != LJ_NOT_WELL_FORMED; }
+
+/* With each set of faults; that the picture is not whole is one more, or not, as the receiver has it. */
+static void try_faults(const call *base) {
+    for (unsigned set = 0; set < SETS; set++) {
+        call c = *base;
+        for (uint32_t n = below(3); n > 0; n--) change_lawfully(&c);
+        c.out_len = chosen_output(&c, set & TOO_SHORT);
+        if (set & NOT_FORMED) {
+            c.broken = 1;
+            break_receiver(&c.receiver);
+        }
+        c.area_len = c.receiver.room <= LENGTH_MOST ? c.receiver.room : 0;
+        if (set & NOT_ROOM) c.area_len = other_area(&c.receiver);
+        uint32_t right = set & NOT_FORMED ? 9 : set & NOT_ROOM ? 8 : !c.whole ? 30 : set & TOO_SHORT ? 31 : 0;
+        if (same(&c, (uint8_t)any()).reply != right) stop(&c, "both builders from the order of the faults");
+        if (formed_to_receive(c.receiver) == c.broken) stop(&c, "lj_receive has another opinion of the receiver");
+    }
+}
+
+static void try_reached(void) {
+    for (int i = 0; i < HISTORIES; i++) {
+        call c = reached();
+        if (c.receiver.whole != (uint32_t)c.whole) stop(&c, "the receiver is whole, or is not, against what it took");
+        try_faults(&c);
+        try_faults(&c);
+    }
+}
+
+/* A picture of which nothing is held yet: well formed, and not whole. lj_receive makes none such. */
+static void try_empty_picture(void) {
+    for (int i = 0; i < 100; i++) {
+        call c = whole_picture(ONE_OF(types), ONE_OF(qs), between(1, 500));
+        lj_receiver *r = &c.receiver;
+        memset(r->fragments, 0, sizeof r->fragments);
+        memset(r->tables, 0, sizeof r->tables);
+        r->fragment_count = r->end = r->whole = 0;
+        c.whole = 0;
+        stated(&c, 30, 0);
+        try_faults(&c);
+    }
+}
+
+/* ---- Lengths that do not fit 32 bits ---- */
+
+#if SIZE_MAX > UINT32_MAX
+/* The memory is reserved and hardly used; a machine that has no such room says so. */
+static const char *try_far(void) {
+    const size_t over_32_bits = (size_t)UINT32_MAX + 1;
+    static uint8_t near[FILE_MOST];
+    uint8_t *far = malloc(over_32_bits + LENGTH_MOST);
+    if (far == NULL) return "not tried, no such memory";
+    for (size_t t = 0; t < COUNT(types); t++) {
+        fill_area();
+        call c = whole_picture(types[t], 255, 100);
+        memcpy(far, area, 100);
+        c.area_len = over_32_bits + 100;
+        compare_answers(&c, lj_build(c.receiver, far, c.area_len, near, sizeof near), second(&c, &theirs));
+        if (near[0] != 0) stop(&c, "a refusal changed the output");
+        c.area_len = 100;
+        c.out_len = over_32_bits + 100 * t;
+        memset(far, 0x5a, LENGTH_MOST);
+        lj_written right = second(&c, &theirs);
+        compare_answers(&c, lj_build(c.receiver, area, 100, far, c.out_len), right);
+        compare_files(&c, far, right.length);
+        if (far[right.length] != 0x5a) stop(&c, "a byte was changed past the file");
+        compared += 2;
+    }
+    free(far);
+    return "tried";
+}
+#else
+static const char *try_far(void) { return "none here"; }
+#endif
+
+/* ---- */
+
+static int every_reply_occurred(void) {
+    static const unsigned due[] = {0, 8, 9, 30, 31};
+    for (size_t i = 0; i < COUNT(due); i++)
+        if (replies[due[i]] == 0) {
+            printf("files: reply %u never occurred\n", due[i]);
+            return 0;
+        }
+    return 1;
+}
+
+int main(int argc, char **argv) {
+    seed = seed_given("files", argc, argv);
+    begin_chance(seed);
+    for (size_t i = 0; i < sizeof noise; i++) noise[i] = (uint8_t)any();
+    try_example();
+    try_endings();
+    try_lengths();
+    try_fields();
+    try_empty_picture();
+    const char *far = try_far();
+    try_reached();
+    printf("files: %lu builds compared, all equal (seed %" PRIu64 "); replies", compared, seed);
+    for (size_t i = 0; i < COUNT(replies); i++)
+        if (replies[i] != 0) printf("%s %zu: %lu", i ? "," : "", i, replies[i]);
+    printf("; lengths over 32 bits: %s\n", far);
+    return every_reply_occurred() ? 0 : 1;
+}
