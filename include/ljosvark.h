@@ -19,8 +19,8 @@
 extern "C" {
 #endif
 
-/* The replies, of all calls. Those of a packet come from lj_receive, those of a receiver from it or from lj_build. The first packet
- * of a picture is the one at offset 0 of its scan, whenever it arrives. */
+/* The replies, of all calls. Those of a packet come from lj_receive, those of a receiver from it or from lj_build. The first
+ * packet of a picture is the one at offset 0 of its scan, whenever it arrives. */
 enum {
     LJ_SUCCESS = 0,              /* done; where there is a length, it says how many bytes were written */
     LJ_HELD = 0,                 /* receiver: the packet is taken; the picture is not whole yet */
@@ -201,9 +201,9 @@ lj_opened lj_open(uint32_t source, uint32_t room);
  * LJ_FULL, LJ_BARE. */
 lj_answer lj_receive(lj_receiver *receiver, uint8_t *area, size_t area_len, const uint8_t *packet, size_t packet_len);
 
-/* The file of a whole picture, for a JPEG decoder: the headers of RFC 2435 Appendix B and T.81, 605 bytes, or 611 with a restart
- * interval; the scan, byte for byte; and the marker FF D9, unless the scan's last two bytes are that already. It is the first bytes
- * of out, and out past them stays as it was.
+/* The file of a whole picture, for a JPEG decoder: the headers of RFC 2435 Appendix B and T.81, 605 bytes, or 611 with a
+ * restart interval; the scan, byte for byte; and the marker FF D9, unless the scan's last two bytes are that already. It is
+ * the first bytes of out, and out past them stays as it was.
  *
  *   r            a receiver after LJ_WHOLE, until a newer picture starts; it is handed over by value and stays as it is
  *   area         its area, as the last call left it; it is read alone
