@@ -4,7 +4,7 @@ use mathlib.Core.List.{List, [], _∷_, flatMap}
 use mathlib.Core.Path.{_≡_, refl}
 use lib.ListN.{length, take, drop}
 use Rattle.builder.specs.File.{isClosed, body, file}
-use Rattle.head.specs.Head.{lumaDown, quantisers, restarts, frameHeader, huffmanTables, scanHeader, head}
+use Rattle.head.specs.Head.{lumaSampling, quantisers, restarts, frameHeader, huffmanTables, scanHeader, head}
 use Rattle.head.specs.Huffman.{lumaDC, lumaAC, chromaDC, chromaAC}
 use Rattle.head.specs.Segment.{segment}
 use Rattle.head.specs.declared.Frame.{Frame}
@@ -37,7 +37,7 @@ pub record FileCases : Type 0 where
   pub one-byte : body (0xD9 ∷ []) ≡ 0xD9 ∷ 0xFF ∷ 0xD9 ∷ []
 
 pub file-cases : FileCases
-unfolding lumaAt chromaAt zigzag inZigzag scale made scaled tablesOf spelled flatMap segment lumaDown quantisers restarts frameHeader huffmanTables scanHeader head lumaDC lumaAC chromaDC chromaAC isClosed body file
+unfolding lumaAt chromaAt zigzag inZigzag scale made scaled tablesOf spelled flatMap segment lumaSampling quantisers restarts frameHeader huffmanTables scanHeader head lumaDC lumaAC chromaDC chromaAC isClosed body file
 file-cases = record {
   head-without-dri = refl;
   head-with-dri = refl;

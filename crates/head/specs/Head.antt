@@ -9,37 +9,37 @@ use native.Mathlib.Omega.{arith}
 use borrow.Author.Tests.{ne-eqb}
 use lib.Dec.{eqb}
 use lib.ListN.{length, take, drop, length-append, length-take, length-drop}
+use Rattle.laws.specs.Spelled.{spelled}
 use Rattle.laws.specs.Truth.{split}
 use Rattle.slices.specs.Slices.{PutsAt}
-use Rattle.laws.specs.Spelled.{spelled}
 use Rattle.head.specs.Huffman.{HuffmanTable, lumaDC, lumaAC, chromaDC, chromaAC}
 use Rattle.head.specs.Segment.{soi, dqt, dri, sof0, dht, sos, marker, segment, paired, length-segment}
 use Rattle.head.specs.declared.Frame.{Frame}
 
--- A component as frame and scan name it: its number, how often it is sampled across and down, and the number of its tables, which is
--- one for the quantiser's and both of Huffman's.
+-- A component: its number, and that of its tables, which is one for the quantiser's and both of Huffman's.
 pub record Component : Type 0 where
   pub number : ℕ
-  pub across : ℕ
-  pub down : ℕ
   pub tables : ℕ
 
--- "Component numbers are 0, 1, 2": luma, and from there on the two of chroma.
+-- "Component numbers are 0, 1, 2": luma's, and from there on those of the two of chroma.
 abbrev pub firstComponent : ℕ
 firstComponent = 0
 
--- "Luma sampling is 0x21 for types 0 and 64, 0x22 for 1 and 65."
-unfoldable pub lumaDown : ℕ → ℕ
-lumaDown kind = cond (eqb kind 0 || eqb kind 64) 1 2
+abbrev pub luma : Component
+luma = record { number = firstComponent; tables = 0 }
 
-abbrev pub luma : ℕ → Component
-luma kind = record { number = firstComponent; across = 2; down = lumaDown kind; tables = 0 }
+abbrev pub chroma : List Component
+chroma = record { number = firstComponent + 1; tables = 1 } ∷ record { number = firstComponent + 2; tables = 1 } ∷ []
 
-abbrev pub chroma : ℕ → Component
-chroma number = record { number = number; across = 1; down = 1; tables = 1 }
+abbrev pub components : List Component
+components = luma ∷ chroma
 
-abbrev pub components : ℕ → List Component
-components kind = luma kind ∷ chroma (firstComponent + 1) ∷ chroma (firstComponent + 2) ∷ []
+-- How often luma is sampled across and down for each sample of chroma: "0x21 for types 0 and 64, 0x22 for 1 and 65".
+unfoldable pub lumaSampling : ℕ → ℕ
+lumaSampling kind = cond (eqb kind 0 || eqb kind 64) (paired 2 1) (paired 2 2)
+
+abbrev pub chromaSampling : ℕ
+chromaSampling = paired 1 1
 
 -- DQT: precision 0 and the table's number, and its 64 entries in zigzag order.
 abbrev pub quantiser : ℕ → List ℕ → List ℕ
@@ -54,13 +54,16 @@ unfoldable pub restarts : ℕ → List ℕ
 restarts interval = cond (eqb interval 0) [] (segment dri (spelled 2 interval))
 
 -- SOF0: 8 bits to a sample, the sides in pixels, how many components there are, and each one's number, sampling and quantiser table.
-abbrev pub inFrame : Component → List ℕ
-inFrame c = c .number ∷ paired (c .across) (c .down) ∷ c .tables ∷ []
+abbrev pub inFrame : ℕ → Component → List ℕ
+inFrame sampling c = c .number ∷ sampling ∷ c .tables ∷ []
 
 unfoldable pub frameHeader : Frame → List ℕ
 frameHeader f =
-    let cs = components (f .kind) in
-    segment sof0 (8 ∷ (spelled 2 (8 * f .height) ++ spelled 2 (8 * f .width) ++ (length cs ∷ flatMap inFrame cs)))
+    segment sof0
+    (8
+    ∷ (spelled 2 (8 * f .height)
+    ++ spelled 2 (8 * f .width)
+    ++ (length components ∷ (inFrame (lumaSampling (f .kind)) luma ++ flatMap (inFrame chromaSampling) chroma))))
 
 -- DHT: the class, 0 for DC and 1 for AC, with the table's number, and the table.
 abbrev pub huffman : ℕ → ℕ → HuffmanTable → List ℕ
@@ -73,15 +76,13 @@ huffmanTables = huffman 0 0 lumaDC ++ huffman 1 0 lumaAC ++ huffman 0 1 chromaDC
 abbrev pub inScan : Component → List ℕ
 inScan c = c .number ∷ paired (c .tables) (c .tables) ∷ []
 
-unfoldable pub scanHeader : ℕ → List ℕ
-scanHeader kind =
-    let cs = components kind in
-    segment sos (length cs ∷ (flatMap inScan cs ++ (0 ∷ 63 ∷ paired 0 0 ∷ [])))
+unfoldable pub scanHeader : List ℕ
+scanHeader = segment sos (length components ∷ (flatMap inScan components ++ (0 ∷ 63 ∷ paired 0 0 ∷ [])))
 
 -- All of it, from the frame and the 128 table bytes.
 unfoldable pub head : Frame → List ℕ → List ℕ
 head f tables =
-    marker soi ++ quantisers tables ++ restarts (f .interval) ++ frameHeader f ++ huffmanTables ++ scanHeader (f .kind)
+    marker soi ++ quantisers tables ++ restarts (f .interval) ++ frameHeader f ++ huffmanTables ++ scanHeader
 
 -- "The head is 605 bytes, or 611 with DRI."
 unfoldable pub headLength : ℕ → ℕ
@@ -98,13 +99,13 @@ PutsHead f tables before after = PutsAt before 0 (head f tables) after
 -- ---- laws
 
 module _ (kind : ℕ) where
-  pub down-once : (kind ≡ 0) ⊎ (kind ≡ 64) → lumaDown kind ≡ 1
-  unfolding lumaDown
-  down-once h = ⊎-elim (λ e. rw e) (λ e. rw e) h
+  pub sampled-2-by-1 : (kind ≡ 0) ⊎ (kind ≡ 64) → lumaSampling kind ≡ 0x21
+  unfolding lumaSampling
+  sampled-2-by-1 h = ⊎-elim (λ e. rw e) (λ e. rw e) h
 
-  pub down-twice : (kind ≡ 0 → ⊥) → (kind ≡ 64 → ⊥) → lumaDown kind ≡ 2
-  unfolding lumaDown
-  down-twice a b = rw (ne-eqb kind 0 a, ne-eqb kind 64 b)
+  pub sampled-2-by-2 : (kind ≡ 0 → ⊥) → (kind ≡ 64 → ⊥) → lumaSampling kind ≡ 0x22
+  unfolding lumaSampling
+  sampled-2-by-2 a b = rw (ne-eqb kind 0 a, ne-eqb kind 64 b)
 
 -- without an interval, and with one
 pub no-restarts : restarts 0 ≡ []
@@ -131,9 +132,9 @@ pub length-huffman-tables : length huffmanTables ≡ 432
 unfolding huffmanTables segment spelled lumaDC lumaAC chromaDC chromaAC
 length-huffman-tables = refl
 
-pub length-scan-header : (kind : ℕ) → length (scanHeader kind) ≡ 14
+pub length-scan-header : length scanHeader ≡ 14
 unfolding scanHeader segment spelled flatMap
-length-scan-header kind = refl
+length-scan-header = refl
 
 pub length-head : (f : Frame) (tables : List ℕ) → length tables ≡ 128 → length (head f tables) ≡ headLength (f .interval)
 unfolding head

@@ -1,10 +1,9 @@
 // The segments that tell of the picture: restart interval, frame and scan.
-ghost use Prim.Native.Nat.{_+_, _*_, _≤_};
+ghost use Prim.Native.Nat.{_+_, _≤_};
 ghost use mathlib.Core.Path.{_≡_};
 ghost use lib.ListN.{length};
 ghost use Rattle.laws.specs.Put.{PutsTo};
-ghost use Rattle.head.specs.Head.{frameHeader, lumaDown, restarts, scanHeader};
-ghost use Rattle.head.specs.Segment.{paired};
+ghost use Rattle.head.specs.Head.{frameHeader, lumaSampling, restarts, scanHeader};
 use crate::Frame;
 use crate::segment::put_segment;
 
@@ -58,7 +57,7 @@ pub(crate) fn put_frame(frame: Frame, at: usize, out: &mut [u8]) -> usize
 }
 
 fn luma_sampling(kind: u8) -> u8
-    ensures { λ r. ⌜ r ≡ paired 2 (lumaDown kind) ⌝ }
+    ensures { λ r. ⌜ r ≡ lumaSampling kind ⌝ }
 {
     match kind {
         0 | 64 => 0x21,
@@ -67,9 +66,9 @@ fn luma_sampling(kind: u8) -> u8
 }
 
 // SOS: of each component its number and its Huffman tables; then coefficients 0 to 63, each in full.
-pub(crate) fn put_scan(kind: u8, at: usize, out: &mut [u8]) -> usize
+pub(crate) fn put_scan(at: usize, out: &mut [u8]) -> usize
     requires { ⌜ at + 14 ≤ length (now out) ⌝ }
-    ensures { λ r. ⌜ PutsTo (now (out .entry)) at (scanHeader kind) (now (out .exit)) r ⌝ }
+    ensures { λ r. ⌜ PutsTo (now (out .entry)) at scanHeader (now (out .exit)) r ⌝ }
 {
     let content = [
         3,

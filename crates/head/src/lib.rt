@@ -50,7 +50,7 @@ fn put_head(frame: Frame, tables: [u8; 128], out: &mut [u8])
     let at = put_restarts(frame.interval, at, out);
     let at = put_frame(frame, at, out);
     let at = put_huffman_tables(at, out);
-    put_scan(frame.kind, at, out);
+    put_scan(at, out);
 }
 
 // DQT of luma, under number 0, and of chroma, under 1; 0 in the upper four bits stands for entries of one byte.

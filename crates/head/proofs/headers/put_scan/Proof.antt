@@ -6,11 +6,11 @@ use Rattle.head.specs.Segment.{as-put}
 use Rattle.head.proofs.headers.put_scan.Statement.{statement}
 use Rattle.head.proofs.headers.put_scan.Tie as tie
 
+add-t4 : tie.Need-add-t4
+add-t4 c = search needs
+
 add-t5 : tie.Need-add-t5
 add-t5 c = search needs
-
-add-t6 : tie.Need-add-t6
-add-t6 c = search needs
 
 slice-aggregate-put-segment : tie.Need-slice-aggregate-put-segment
 slice-aggregate-put-segment c = search needs
@@ -28,4 +28,10 @@ returns c = as-put (c .before .before .put-segment .ensures)
 pub put-scan-spec : {M : Type 1} → statement M
 put-scan-spec =
     tie.close
-    (tie.spec add-t5 add-t6 slice-aggregate-put-segment put-segment-requires same-length returns)
+    (tie.spec
+    add-t4
+    add-t5
+    slice-aggregate-put-segment
+    put-segment-requires
+    same-length
+    returns)
