@@ -1,4 +1,4 @@
-/* lj_build against a second builder, from document 01, RFC 2435 and T.81: it goes down a list of the file's segments, lets
+/* lj_build against a second builder, from document 01 and RFC 2435: it goes down a list of the file's segments, lets
  * each put what it holds, and takes all lengths from that. Of the Huffman tables it has only what follows no rule. The
  * receivers take pictures that lj_packet sends, or are written over in ways of which document 01 says plainly what they
  * make of a receiver. The first argument, if there is one, is the seed of all that is chosen by chance. */
@@ -209,8 +209,8 @@ static lj_written same(const call *c, uint8_t fill) {
     return right;
 }
 
-/* A case whose answer is stated, so that both builders being wrong alike shows too. Two fills, so that a byte written as
- * it was before shows in one of them. */
+/* A case whose answer is stated, so that both builders being wrong alike shows too. Two fills, so that a byte that
+ * was not written shows in one of them. */
 static void stated(const call *c, uint32_t reply, size_t length) {
     lj_written answered = same(c, 0x00);
     same(c, 0xa5);
@@ -337,7 +337,7 @@ static void try_lengths(void) {
 
 /* Each width and each height, each Q, and intervals of which both bytes count. */
 static void try_fields(void) {
-    static const uint32_t intervals[] = {1, 2, 127, 128, 254, 255, 256, 257, 511, 512, 0x00ff, 0xff00, 65534, 65535};
+    static const uint32_t intervals[] = {1, 2, 127, 128, 254, 255, 256, 257, 511, 512, 0xff00, 65534, 65535};
     fill_area();
     area[19] = 0;
     for (uint32_t n = 1; n <= 255; n++)
@@ -345,7 +345,7 @@ static void try_fields(void) {
             uint32_t q = n <= 99 || 128 <= n ? n : 255;
             call c = whole_picture(types[t], q, 20);
             c.receiver.width = n;
-            c.receiver.height = n % 2 ? 256 - n : 1 + below(255);
+            c.receiver.height = 256 - n;
             if (types[t] >= 64) c.receiver.interval = n % 3 ? ONE_OF(intervals) : between(1, 65535);
             stated(&c, 0, head_length(&c.receiver) + 20 + 2);
         }

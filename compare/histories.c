@@ -1,6 +1,7 @@
-/* The receiver's and the builder's cases of crates/vectors again, through C: `histories IN OUT` runs the lines of IN that open a
- * receiver, make one up, hand it packets, show it or build its file, and compares each, with its answer, with the same line of OUT. The comments of
- * IN say what each form gives. Lines about tables, packets or the receiver's parts by themselves are passed over. */
+/* The receiver's and the builder's cases of crates/vectors again, through C: `histories IN OUT` runs the lines of IN that
+ * open a receiver, make one up, hand it packets, show it or build its file, and compares each, with its answer, with the
+ * same line of OUT. The comments of IN say what each form gives. Lines about tables, packets or the receiver's parts by
+ * themselves are passed over. */
 #include "built.h"
 #include "received.h"
 

@@ -6,7 +6,7 @@
 #include <stdio.h>
 #include <string.h>
 
-/* LENT_MOST is the longest scan area. A file, and an area that is too long, go so much beyond it. */
+/* LENT_MOST is the longest scan area. Files, and areas that are too long, go beyond it, up to 70,000 bytes. */
 enum { LENT_MOST = 65536, LENT_BEYOND = 4464, GUARD = 64 };
 
 typedef struct {

@@ -249,7 +249,7 @@ static void build_file(const jpeg *original) {
     rebuilt_len = length;
 }
 
-/* One receiver takes the picture each way in turn, as pictures of which each is newer. */
+/* One receiver takes the picture each way in turn, as pictures of which each is newer than the last. */
 static void send_each_way(const jpeg *original, uint32_t quality) {
     const way ways[] = {{"with Q 255", 255, 1, 0, 1},
                         {"with the encoder's quality as Q", quality, 0, 0, 0},

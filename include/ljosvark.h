@@ -19,8 +19,9 @@
 extern "C" {
 #endif
 
-/* The replies, of all calls. Those of a packet come from lj_receive, those of a receiver from it or from lj_build. The first
- * packet of a picture is the one at offset 0 of its scan, whenever it arrives. */
+/* The replies, of all calls. Those of a packet and of a receiver come from lj_receive, and LJ_AREA_NOT_ROOM and
+ * LJ_NOT_WELL_FORMED from lj_build too. The first packet of a picture is the one at offset 0 of its scan, whenever it
+ * arrives. */
 enum {
     LJ_SUCCESS = 0,              /* done; where there is a length, it says how many bytes were written */
     LJ_HELD = 0,                 /* receiver: the packet is taken; the picture is not whole yet */
@@ -205,13 +206,13 @@ lj_answer lj_receive(lj_receiver *receiver, uint8_t *area, size_t area_len, cons
  * restart interval; the scan, byte for byte; and the marker FF D9, unless the scan's last two bytes are that already. It is
  * the first bytes of out, and out past them stays as it was.
  *
- *   r            a receiver after LJ_WHOLE, until a newer picture starts; it is handed over by value and stays as it is
- *   area         its area, as the last call left it; it is read alone
- *   out          end + LJ_FILE_BESIDE_SCAN bytes are always enough, and so are room + LJ_FILE_BESIDE_SCAN; it must not overlap
- *                the area
+ *   receiver     after LJ_WHOLE, until a newer picture starts; handed over by value, so that it stays as it is
+ *   area         the receiver's, as the last call left it; it is only read
+ *   out          receiver.end + LJ_FILE_BESIDE_SCAN bytes are always enough, and so are receiver.room + LJ_FILE_BESIDE_SCAN;
+ *                it must not overlap the area
  *
  * Refusals, in this order: LJ_NOT_WELL_FORMED, LJ_AREA_NOT_ROOM, LJ_NOT_WHOLE, LJ_FILE_OUTPUT. */
-lj_written lj_build(lj_receiver r, const uint8_t *area, size_t area_len, uint8_t *out, size_t out_len);
+lj_written lj_build(lj_receiver receiver, const uint8_t *area, size_t area_len, uint8_t *out, size_t out_len);
 
 #ifdef __cplusplus
 }

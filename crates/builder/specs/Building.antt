@@ -22,14 +22,19 @@ use Rattle.wire.specs.Lawful.{Lawful, lawful}
 use Rattle.builder.specs.File.{file}
 
 -- 9, 8 and 30, in their order; 31 is against the file's own length.
-abbrev pub checks : Receiver → List ℕ → List Check
-checks r area =
-    Reply.not-well-formed when not (wellFormed r)
-    ∷ Reply.area-not-room when not (eqb (length area) (r .room))
-    ∷ Reply.not-whole when not (Held.whole (heldFragments r))
-    ∷ []
+abbrev pub formedCheck : Receiver → Check
+formedCheck r = Reply.not-well-formed when not (wellFormed r)
 
--- What a whole picture's file is made of: its header fields, and the bytes of the area up to its end.
+abbrev pub roomCheck : Receiver → List ℕ → Check
+roomCheck r area = Reply.area-not-room when not (eqb (length area) (r .room))
+
+abbrev pub wholeCheck : Receiver → Check
+wholeCheck r = Reply.not-whole when not (Held.whole (heldFragments r))
+
+abbrev pub checks : Receiver → List ℕ → List Check
+checks r area = formedCheck r ∷ roomCheck r area ∷ wholeCheck r ∷ []
+
+-- What a whole picture's file is made of: its header fields, its tables, and the bytes of the area up to its end.
 abbrev pub frameOf : Receiver → Frame
 frameOf r = record { kind = r .kind; width = r .width; height = r .height; interval = r .interval }
 
@@ -64,8 +69,15 @@ buildable r area e =
       whole = not-false (Held.whole (heldFragments r)) (t .1 .1 .0);
     }
 
+-- A whole picture has lawful header fields.
+pub whole-lawful : {r : Receiver} → WellFormed r → Held.whole (heldFragments r) ≡ true → Lawful (headerOf r)
+whole-lawful {r} well whole =
+    lawful (headerOf r)
+    (some-held (r .time) (r .«fragment_count») (headerOf r) (r .picture) (well .picture)
+    (λ z. never-both whole (rw z (Held.not-known 0 0 refl))))
+
+-- The area has every byte of its scan.
 module _ {r : Receiver} {area : List ℕ} (b : Buildable r area) where
-  -- the area has every byte of the scan
   pub length-scan : length (scanOf r area) ≡ r .end
   length-scan =
       simp length-take
@@ -73,10 +85,3 @@ module _ {r : Receiver} {area : List ℕ} (b : Buildable r area) where
 
   pub scan-small : length (scanOf r area) ≤ 65536
   scan-small = simp length-take (omega (arith, b .room, b .well .room))
-
-  -- there is a picture, with lawful header fields
-  pub picture-lawful : Lawful (headerOf r)
-  picture-lawful =
-      lawful (headerOf r)
-      (some-held (r .time) (r .«fragment_count») (headerOf r) (r .picture) (b .well .picture)
-      (λ z. never-both (b .whole) (rw z (Held.not-known 0 0 refl))))

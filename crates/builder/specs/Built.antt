@@ -1,4 +1,4 @@
--- What the builder leaves of a whole picture. Assumes nothing.
+-- What the builder makes of a whole picture. Assumes nothing.
 use Prim.Native.Nat.{ℕ, _≤_}
 use mathlib.Core.List.{List, _++_, append-assoc}
 use mathlib.Core.Path.{_≡_, sym, ap, _∙_}

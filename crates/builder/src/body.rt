@@ -5,6 +5,9 @@ ghost use lib.ListN.{length as List·length};
 ghost use Rattle.laws.specs.Put.{Puts};
 ghost use Rattle.builder.specs.File.{body, isClosed};
 
+// EOI.
+const CLOSING: [u8; 2] = [0xFF, 0xD9];
+
 pub(crate) fn length(scan: &[u8]) -> usize
     requires { ⌜ List·length (now scan) ≤ 65536 ⌝ }
     ensures { λ r. ⌜ r ≡ List·length (body (now (scan .entry))) ⌝ }
@@ -24,7 +27,7 @@ pub(crate) fn put(scan: &[u8], at: usize, out: &mut [u8])
     if is_closed(scan) {
         return;
     }
-    let closing = [0xFF, 0xD9];
+    let closing = CLOSING;
     slices::put(&closing, at + scan.len(), out);
 }
 
@@ -36,6 +39,6 @@ fn is_closed(scan: &[u8]) -> bool
         return false;
     }
     let last = slices::part(scan, scan.len() - 2, 2);
-    let closing = [0xFF, 0xD9];
+    let closing = CLOSING;
     slices::are_same(last, &closing)
 }

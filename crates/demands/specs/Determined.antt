@@ -8,13 +8,13 @@ use Rattle.fragments.specs.Array.{Surveys, Places, PutsIn, HasNone, TellsClear}
 use Rattle.fragments.specs.declared.Fragment.{Fragment}
 use Rattle.fragments.specs.declared.Placed.{Placed}
 use Rattle.fragments.specs.declared.Surveyed.{Surveyed}
-use Rattle.head.specs.Head.{TellsLength, PutsHead}
+use Rattle.head.specs.Head.{TellsHeadLength, PutsHead}
 use Rattle.head.specs.declared.Frame.{Frame}
 use Rattle.kept.specs.Kept.{IsNone, TellsHas, Finds, Keeps, TellsWell, TellsBlank}
 use Rattle.kept.specs.declared.Kept.{Kept}
 use Rattle.receiver.specs.Step.{Receives}
 use Rattle.receiver.specs.declared.Received.{Received}
-use Rattle.records.specs.Framing.{TellsLength as TellsRecord}
+use Rattle.records.specs.Framing.{TellsRecordLength}
 use Rattle.records.specs.Taking.{Takes}
 use Rattle.records.specs.declared.Taken.{Taken}
 use Rattle.replies.specs.Output.{refused, succeeded, writes-determined}
@@ -149,7 +149,7 @@ receive-in-place r area packet x x′ next next′ after after′ a b =
     (ap (λ (c : Received). c .answer) d, ap (λ (c : Received). c .receiver) d, only (a .lent) (b .lent))
 
 -- `head::length` and `head::put`
-pub head-length : (interval n n′ : ℕ) → TellsLength interval n → TellsLength interval n′ → n ≡ n′
+pub head-length : (interval n n′ : ℕ) → TellsHeadLength interval n → TellsHeadLength interval n′ → n ≡ n′
 head-length interval n n′ x y = only x y
 
 pub put-head : (f : Frame) (tables before after after′ : List ℕ) → PutsHead f tables before after → PutsHead f tables before after′ → after ≡ after′
@@ -160,7 +160,7 @@ pub build : (r : Receiver) (area before : List ℕ) (w w′ : Written) (after af
 build r area before w w′ after after′ a b = writes-determined a b
 
 -- `records::length`, and `records::take`: what came, the next receiver and the area
-pub record-length : (bytes : List ℕ) (n n′ : ℕ) → TellsRecord bytes n → TellsRecord bytes n′ → n ≡ n′
+pub record-length : (bytes : List ℕ) (n n′ : ℕ) → TellsRecordLength bytes n → TellsRecordLength bytes n′ → n ≡ n′
 record-length bytes n n′ x y = only x y
 
 pub take-record : (r : Receiver) (area bytes : List ℕ) (t t′ : Taken) (after after′ : List ℕ) → Takes r area bytes t after → Takes r area bytes t′ after′ → (t ≡ t′) × (after ≡ after′)

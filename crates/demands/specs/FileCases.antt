@@ -1,4 +1,4 @@
--- The numbers of document 01 under "The file", as one table that the checker computes. Assumes nothing.
+-- Document 01's numbers for the file, as one table that the checker computes. Assumes nothing.
 use Prim.Native.Nat.{ℕ, _+_}
 use mathlib.Core.List.{List, [], _∷_, flatMap}
 use mathlib.Core.Path.{_≡_, refl}
@@ -14,12 +14,12 @@ use Rattle.tables.specs.Quantiser.{lumaAt, chromaAt, zigzag, inZigzag, scale, m
 abbrev frame : ℕ → ℕ → Frame
 frame kind interval = record { kind = kind; width = 2; height = 2; interval = interval }
 
--- the head of a picture of Q 50, and the file of the transcript's picture with this scan
+-- the head of a picture of Q 50, and the file of the transcript's picture with another scan
 abbrev headOf : ℕ → ℕ → List ℕ
 headOf kind interval = head (frame kind interval) (tablesOf 50)
 
-abbrev fileOf : List ℕ → List ℕ
-fileOf scan = file (frame 1 0) (tablesOf 50) scan
+abbrev transcriptWith : List ℕ → List ℕ
+transcriptWith scan = file (frame 1 0) (tablesOf 50) scan
 
 -- the sampling byte of luma in a head, behind SOI, two DQT and the first 11 bytes of SOF0
 abbrev sampling : ℕ → ℕ → List ℕ
@@ -32,8 +32,8 @@ pub record FileCases : Type 0 where
   pub type-1 : sampling 1 0 ≡ 0x22 ∷ []
   pub type-64 : sampling 64 4 ≡ 0x21 ∷ []
   pub type-65 : sampling 65 4 ≡ 0x22 ∷ []
-  pub after-packet-3 : length (fileOf (0xAA ∷ 0xBB ∷ 0xCC ∷ 0xDD ∷ [])) ≡ 605 + 4 + 2
-  pub closed-already : length (fileOf (0xAA ∷ 0xBB ∷ 0xFF ∷ 0xD9 ∷ [])) ≡ 605 + 4
+  pub after-packet-3 : length (transcriptWith (0xAA ∷ 0xBB ∷ 0xCC ∷ 0xDD ∷ [])) ≡ 605 + 4 + 2
+  pub closed-already : length (transcriptWith (0xAA ∷ 0xBB ∷ 0xFF ∷ 0xD9 ∷ [])) ≡ 605 + 4
   pub one-byte : body (0xD9 ∷ []) ≡ 0xD9 ∷ 0xFF ∷ 0xD9 ∷ []
 
 pub file-cases : FileCases

@@ -16,7 +16,7 @@ use Rattle.head.specs.Huffman.{HuffmanTable, lumaDC, lumaAC, chromaDC, c
 use Rattle.head.specs.Segment.{soi, dqt, dri, sof0, dht, sos, marker, segment, paired, length-segment}
 use Rattle.head.specs.declared.Frame.{Frame}
 
--- A component: its number, and that of its tables, which is one for the quantiser's and both of Huffman's.
+-- A component: its number, and the number that its quantiser table and both its Huffman tables share.
 pub record Component : Type 0 where
   pub number : ℕ
   pub tables : ℕ
@@ -89,8 +89,8 @@ unfoldable pub headLength : ℕ → ℕ
 headLength interval = cond (eqb interval 0) 605 611
 
 -- The outcome of `length`.
-abbrev pub TellsLength : ℕ → ℕ → Type 0
-TellsLength interval n = n ≡ headLength interval
+abbrev pub TellsHeadLength : ℕ → ℕ → Type 0
+TellsHeadLength interval n = n ≡ headLength interval
 
 -- The outcome of `put`: the head stands in front, and all is as it was where it does not fit.
 abbrev pub PutsHead : Frame → List ℕ → List ℕ → List ℕ → Type 0

@@ -4,7 +4,6 @@ use mathlib.Core.List.{List, [], _∷_, _++_}
 use mathlib.Core.Path.{_≡_}
 use native.Mathlib.Omega.{arith}
 use lib.ListN.{length, length-append}
-use Rattle.laws.specs.Put.{Puts, PutsTo}
 use Rattle.laws.specs.Spelled.{spelled}
 
 -- The second byte of each marker (T.81 table B.1): start and end of image, quantiser tables, restart interval, baseline frame, Huffman
@@ -35,23 +34,18 @@ abbrev pub marker : ℕ → List ℕ
 marker m = 0xFF ∷ m ∷ []
 
 -- A marker segment: the marker, a length of two bytes that counts itself and the content, and the content.
+abbrev pub segmentStart : ℕ → ℕ → List ℕ
+segmentStart m length = marker m ++ spelled 2 (2 + length)
+
 unfoldable pub segment : ℕ → List ℕ → List ℕ
-segment m content = marker m ++ spelled 2 (2 + length content) ++ content
+segment m content = segmentStart m (length content) ++ content
 
 -- Two numbers of four bits in one byte.
 abbrev pub paired : ℕ → ℕ → ℕ
 paired high low = 16 * high + low
-
--- What a call leaves that puts a segment at a place, and answers the place behind it.
-pub record PutsSegment (before : List ℕ) (at m : ℕ) (content after : List ℕ) (behind : ℕ) : Type 0 where
-  pub puts : Puts before at (segment m content) after
-  pub next : behind ≡ at + (4 + length content)
 
 -- ---- laws
 
 pub length-segment : (m : ℕ) (content : List ℕ) → length (segment m content) ≡ 4 + length content
 unfolding segment spelled
 length-segment m content = simp length-append (omega arith)
-
-pub as-put : {before after content : List ℕ} {at m behind : ℕ} → PutsSegment before at m content after behind → PutsTo before at (segment m content) after behind
-as-put {content = content} {m = m} p = record { puts = p .puts; next = omega (arith, p .next, length-segment m content) }

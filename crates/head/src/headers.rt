@@ -2,16 +2,13 @@
 ghost use Prim.Native.Nat.{_+_, _≤_};
 ghost use mathlib.Core.Path.{_≡_};
 ghost use lib.ListN.{length};
-ghost use Rattle.laws.specs.Put.{PutsTo};
+ghost use Rattle.laws.specs.Put.{PutsUpTo};
 ghost use Rattle.head.specs.Head.{frameHeader, lumaSampling, restarts, scanHeader};
 use crate::Frame;
+use crate::segment::DRI;
+use crate::segment::SOF0;
+use crate::segment::SOS;
 use crate::segment::put_segment;
-
-const DRI: u8 = 0xDD;
-
-const SOF0: u8 = 0xC0;
-
-const SOS: u8 = 0xDA;
 
 // The number of the luma component; those of the two of chroma follow it.
 const FIRST_COMPONENT: u8 = 0;
@@ -19,7 +16,7 @@ const FIRST_COMPONENT: u8 = 0;
 // DRI, where there is an interval.
 pub(crate) fn put_restarts(interval: u16, at: usize, out: &mut [u8]) -> usize
     requires { ⌜ at + length (restarts interval) ≤ length (now out) ⌝ }
-    ensures { λ r. ⌜ PutsTo (now (out .entry)) at (restarts interval) (now (out .exit)) r ⌝ }
+    ensures { λ r. ⌜ PutsUpTo (now (out .entry)) at (restarts interval) (now (out .exit)) r ⌝ }
 {
     if interval == 0 {
         return at;
@@ -31,7 +28,7 @@ pub(crate) fn put_restarts(interval: u16, at: usize, out: &mut [u8]) -> usize
 // SOF0: 8 bits to a sample; the sides in pixels; of each component its number, its sampling and its quantiser table.
 pub(crate) fn put_frame(frame: Frame, at: usize, out: &mut [u8]) -> usize
     requires { ⌜ at + 19 ≤ length (now out) ⌝ }
-    ensures { λ r. ⌜ PutsTo (now (out .entry)) at (frameHeader frame) (now (out .exit)) r ⌝ }
+    ensures { λ r. ⌜ PutsUpTo (now (out .entry)) at (frameHeader frame) (now (out .exit)) r ⌝ }
 {
     let height = 8 * frame.height as u16;
     let width = 8 * frame.width as u16;
@@ -68,7 +65,7 @@ fn luma_sampling(kind: u8) -> u8
 // SOS: of each component its number and its Huffman tables; then coefficients 0 to 63, each in full.
 pub(crate) fn put_scan(at: usize, out: &mut [u8]) -> usize
     requires { ⌜ at + 14 ≤ length (now out) ⌝ }
-    ensures { λ r. ⌜ PutsTo (now (out .entry)) at scanHeader (now (out .exit)) r ⌝ }
+    ensures { λ r. ⌜ PutsUpTo (now (out .entry)) at scanHeader (now (out .exit)) r ⌝ }
 {
     let content = [
         3,

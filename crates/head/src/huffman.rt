@@ -3,12 +3,11 @@ ghost use Prim.Native.Nat.{_+_, _≤_};
 ghost use mathlib.Core.List.{_++_};
 ghost use mathlib.Core.Path.{_≡_};
 ghost use lib.ListN.{length};
-ghost use Rattle.laws.specs.Put.{PutsTo};
+ghost use Rattle.laws.specs.Put.{PutsUpTo};
 ghost use Rattle.head.specs.Head.{huffmanTables};
 ghost use Rattle.head.specs.Huffman.{lumaDC, lumaAC, chromaDC, chromaAC};
+use crate::segment::DHT;
 use crate::segment::put_table;
-
-const DHT: u8 = 0xC4;
 
 const K3: [u8; 28] = *b"\
     \x00\x01\x05\x01\x01\x01\x01\x01\x01\x00\x00\x00\x00\x00\x00\x00\
@@ -49,7 +48,7 @@ const K6: [u8; 178] = *b"\
 // Luma first; the upper four bits of a table's number are its class, 0 for DC and 1 for AC.
 pub(crate) fn put_huffman_tables(at: usize, out: &mut [u8]) -> usize
     requires { ⌜ at + 432 ≤ length (now out) ⌝ }
-    ensures { λ r. ⌜ PutsTo (now (out .entry)) at huffmanTables (now (out .exit)) r ⌝ }
+    ensures { λ r. ⌜ PutsUpTo (now (out .entry)) at huffmanTables (now (out .exit)) r ⌝ }
 {
     let dc = luma_dc();
     let at = put_table(DHT, 0x00, &dc, at, out);

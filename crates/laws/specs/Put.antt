@@ -17,7 +17,7 @@ pub record Puts (before : List ℕ) (at : ℕ) (bytes after : List ℕ) : Type 0
   pub same : after ≡ put before at bytes
 
 -- What a call leaves that puts bytes at a place, and answers the place behind them.
-pub record PutsTo (before : List ℕ) (at : ℕ) (bytes after : List ℕ) (behind : ℕ) : Type 0 where
+pub record PutsUpTo (before : List ℕ) (at : ℕ) (bytes after : List ℕ) (behind : ℕ) : Type 0 where
   pub puts : Puts before at bytes after
   pub next : behind ≡ at + length bytes
 
@@ -55,7 +55,7 @@ put-put (x ∷ l) (suc at) a b h =
 pub puts-more : {before between after a b : List ℕ} {at next : ℕ} → Puts before at a between → Puts between next b after → at ≤ length before → next ≡ at + length a → Puts before at (a ++ b) after
 puts-more {before} {between} {after} {a} {b} {at} {next} p q h e = record { same = q .same ∙ rw (e, p .same) (put-put before at a b h) }
 
-pub puts-on : {before between after a b : List ℕ} {at next behind : ℕ} → PutsTo before at a between next → PutsTo between next b after behind → at ≤ length before → PutsTo before at (a ++ b) after behind
+pub puts-on : {before between after a b : List ℕ} {at next behind : ℕ} → PutsUpTo before at a between next → PutsUpTo between next b after behind → at ≤ length before → PutsUpTo before at (a ++ b) after behind
 puts-on {before} {between} {after} {a} {b} p q h = record { puts = puts-more (p .puts) (q .puts) h (p .next); next = simp length-append (omega (arith, p .next, q .next)) }
 
 -- one byte more of a list, in the turn of a loop

@@ -31,8 +31,8 @@ front bytes =
     (packet (take (packetLength bytes) (drop 2 bytes))))
 
 -- The outcome of `length`.
-abbrev pub TellsLength : List ℕ → ℕ → Type 0
-TellsLength bytes n = n ≡ recordLength bytes
+abbrev pub TellsRecordLength : List ℕ → ℕ → Type 0
+TellsRecordLength bytes n = n ≡ recordLength bytes
 
 -- ---- laws
 
@@ -54,7 +54,7 @@ module _ (bytes : List ℕ) where
   unfolding front
   front-nothing h = rw (eq-eqb (length bytes) 0 h)
 
-  module _ {n : ℕ} (some : length bytes ≡ 0 → ⊥) (told : TellsLength bytes n) where
+  module _ {n : ℕ} (some : length bytes ≡ 0 → ⊥) (told : TellsRecordLength bytes n) where
     pub front-cut : length bytes < n → front bytes ≡ cut
     unfolding front
     front-cut h = rw (ne-eqb (length bytes) 0 some, ← told, lt-ltb (length bytes) n h)

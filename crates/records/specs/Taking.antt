@@ -6,14 +6,14 @@ use Rattle.receiver.specs.Step.{received, areaAfter}
 use Rattle.state.specs.declared.Receiver.{Receiver}
 use Rattle.records.specs.Framing as Framing
 use Rattle.records.specs.Framing.{Front, front}
-use Rattle.records.specs.declared.Record.the-variants.{End, Cut, Packet}
+use Rattle.records.specs.declared.Next.the-variants.{End, Cut, Answered}
 use Rattle.records.specs.declared.Taken.{Taken}
 
 -- Only the packet of a complete record reaches the receiver.
 abbrev pub takenBy : Front → Receiver → List ℕ → Taken
 takenBy Framing.Front.nothing r area = record { came = End; receiver = r }
 takenBy Framing.Front.cut r area = record { came = Cut; receiver = r }
-takenBy (Framing.Front.packet p) r area = record { came = Packet (received r area p .answer); receiver = received r area p .receiver }
+takenBy (Framing.Front.packet p) r area = record { came = Answered (received r area p .answer); receiver = received r area p .receiver }
 
 abbrev pub areaBy : Front → Receiver → List ℕ → List ℕ
 areaBy Framing.Front.nothing r area = area

@@ -1,27 +1,27 @@
 // Records of a stream, as RFC 4571 frames them: a length of two bytes, and a packet of so many for the receiver.
 ghost use Prim.Native.Nat.{_+_, _*_};
 ghost use mathlib.Core.Path.{_≡_};
-ghost use Rattle.records.specs.Framing.{TellsLength};
+ghost use Rattle.records.specs.Framing.{TellsRecordLength};
 ghost use Rattle.records.specs.Taking.{Takes};
 use state::Answer;
 use state::Receiver;
 
 // What a stream goes on with: nothing, a record that it ends in, or a complete one, to whose packet the receiver answered this.
-pub enum Record {
+pub enum Next {
     End,
     Cut,
-    Packet(Answer),
+    Answered(Answer),
 }
 
 // What the stream went on with, and the next receiver.
 pub struct Taken {
-    pub came: Record,
+    pub came: Next,
     pub receiver: Receiver,
 }
 
 // How many bytes a record has that begins so: 2 while its length is not all there.
 pub fn length(bytes: &[u8]) -> usize
-    ensures { λ n. ⌜ TellsLength (now (bytes .entry)) n ⌝ }
+    ensures { λ n. ⌜ TellsRecordLength (now (bytes .entry)) n ⌝ }
 {
     if bytes.len() < 2 {
         return 2;
@@ -42,14 +42,14 @@ pub fn take(receiver: Receiver, area: &mut [u8], bytes: &[u8]) -> Taken
 {
     if bytes.len() == 0 {
         return Taken {
-            came: Record::End,
+            came: Next::End,
             receiver,
         };
     }
     let length = length(bytes);
     if bytes.len() < length {
         return Taken {
-            came: Record::Cut,
+            came: Next::Cut,
             receiver,
         };
     }
@@ -57,7 +57,7 @@ pub fn take(receiver: Receiver, area: &mut [u8], bytes: &[u8]) -> Taken
     let answer = received.answer;
     let next = received.receiver;
     Taken {
-        came: Record::Packet(answer),
+        came: Next::Answered(answer),
         receiver: next,
     }
 }

@@ -1,10 +1,11 @@
-// Reads RFC 4571 records from standard input, their packets for a receiver of source 1 with room for 32,768 bytes. Each complete record
-// gets a line: its number, the receiver's reply, and the bytes held. The last line says whether the input ended behind a record or in one.
+// Reads RFC 4571 records from standard input, and hands their packets to a receiver of source 1 with room for 32,768 bytes. Each
+// complete record gets a line: its number, the receiver's reply, and the bytes held. The last line says whether the input ended behind
+// a record or in one, and how many were complete.
 ghost use Prim.Native.Nat.{_≤_};
 ghost use lib.ListN.{length};
 use libc::STDIN_FILENO;
 use libc::STDOUT_FILENO;
-use records::Record;
+use records::Next;
 use records::Taken;
 use state::Answer;
 use state::Receiver;
@@ -19,7 +20,7 @@ fn main() {
     while count < u64::MAX {
         let taken = take_next(receiver, &mut area, &mut buffer);
         let came = taken.came;
-        let Record::Packet(answer) = came else {
+        let Next::Answered(answer) = came else {
             write_end(came, count);
             break;
         };
@@ -63,8 +64,8 @@ fn write_line(number: u64, answer: Answer) {
     io::write_all(STDOUT_FILENO, b"\n");
 }
 
-fn write_end(came: Record, count: u64) {
-    if let Record::Cut = came {
+fn write_end(came: Next, count: u64) {
+    if let Next::Cut = came {
         io::write_all(STDOUT_FILENO, b"cut ");
     } else {
         io::write_all(STDOUT_FILENO, b"end ");

@@ -7,7 +7,7 @@ use lib.ListN.{length}
 use Rattle.replies.specs.Checks.{judged}
 use Rattle.replies.specs.Output.{writes-refused}
 use Rattle.replies.specs.declared.Judged.the-variants.{Passed}
-use Rattle.builder.specs.Building.{Buildable, buildable, building, checks, scan-small, picture-lawful}
+use Rattle.builder.specs.Building.{Buildable, buildable, building, checks, scan-small, whole-lawful}
 use Rattle.builder.proofs.build.Statement.{statement}
 use Rattle.builder.proofs.build.Tie as tie
 
@@ -34,7 +34,7 @@ enum-told : tie.Need-enum-told
 enum-told c = search needs
 
 frame-of-requires : tie.Need-frame-of-requires
-frame-of-requires c κs = picture-lawful (ok c)
+frame-of-requires c κs = let b = ok c in whole-lawful (b .well) (b .whole)
 
 cast-end : tie.Need-cast-end
 cast-end c = search needs

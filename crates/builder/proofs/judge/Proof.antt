@@ -44,7 +44,6 @@ cast-if1 c = search needs
 returns-2 : tie.Need-returns-2
 returns-2 c =
     let told = c .before .before in
-    let s = told .before .before .before .before in
     sym (fails (passes start (rw (formed told))) (other _ _ (c .if1 .taken)))
 
 returns-3 : tie.Need-returns-3

@@ -8,7 +8,7 @@ use lib.ListN.{length, take, drop, length-take, length-drop}
 use lib.Seq.{take-all}
 use Rattle.laws.specs.Put.{puts-on}
 use Rattle.head.specs.Head.{quantisers}
-use Rattle.head.specs.Segment.{as-put}
+use Rattle.head.specs.Segment.{length-segment}
 use Rattle.head.proofs.put_quantisers.Statement.{statement}
 use Rattle.head.proofs.put_quantisers.Tie as tie
 
@@ -37,6 +37,7 @@ put-table-requires-2 : tie.Need-put-table-requires-2
 put-table-requires-2 c κs =
     let first = c .before .before .before .before .before .before in
     let s = first .before .before .before .before in
+    let one = rw length-segment at (c .before .before .before .before .before .put-table .ensures .next) in
     let n = half s 0 (omega arith) (first .before .part .ensures) in
     let m = half s 64 (omega arith) (c .before .part2 .ensures) in
     (omega arith, omega arith)
@@ -51,7 +52,7 @@ returns c =
     let luma = chroma .before .before .before .before .before .before in
     let s = luma .before .before .before .before .before in
     let rest = take-all 64 (drop 64 (s .args .t1)) (simp length-drop (omega (arith, long s))) in
-    puts-on (as-put (rw (luma .before .before .part .ensures) at (luma .put-table .ensures))) (as-put (rw (chroma .before .before .part2 .ensures, rest) at (chroma .put-table2 .ensures))) (omega arith)
+    puts-on (rw (luma .before .before .part .ensures) at (luma .put-table .ensures)) (rw (chroma .before .before .part2 .ensures, rest) at (chroma .put-table2 .ensures)) (omega arith)
 
 pub put-quantisers-spec : {M : Type 1} → statement M
 put-quantisers-spec =

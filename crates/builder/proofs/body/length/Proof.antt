@@ -4,7 +4,6 @@ use mathlib.Core.Path.{sym, ap, _∙_}
 use native.Mathlib.Omega.{arith}
 use denote.Ref.{now}
 use lib.ListN.{length, length-append}
-use borrow.Author.Tests.{}
 use Rattle.builder.specs.File.{body-closed, body-open}
 use Rattle.builder.proofs.body.length.Statement.{statement}
 use Rattle.builder.proofs.body.length.Tie as tie

@@ -3,7 +3,6 @@ use borrow.Author.Needs.{needs}
 use mathlib.Core.List.{flatMap}
 use Rattle.laws.specs.Spelled.{spelled}
 use Rattle.head.specs.Head.{frameHeader}
-use Rattle.head.specs.Segment.{as-put}
 use Rattle.head.proofs.headers.put_frame.Statement.{statement}
 use Rattle.head.proofs.headers.put_frame.Tie as tie
 
@@ -53,7 +52,7 @@ returns : tie.Need-returns
 unfolding frameHeader spelled flatMap
 returns c =
     let put = c .before .before in
-    rw (put .before .before .before .luma-sampling .ensures) at (as-put (put .put-segment .ensures))
+    rw (put .before .before .before .luma-sampling .ensures) at (put .put-segment .ensures)
 
 pub put-frame-spec : {M : Type 1} → statement M
 put-frame-spec =

@@ -7,7 +7,7 @@ use lib.ListN.{length}
 use Rattle.laws.specs.Put.{puts-none}
 use Rattle.laws.specs.Spelled.{spelled}
 use Rattle.head.specs.Head.{no-restarts, some-restarts}
-use Rattle.head.specs.Segment.{dri, as-put, length-segment}
+use Rattle.head.specs.Segment.{dri, length-segment}
 use Rattle.head.proofs.headers.put_restarts.Statement.{statement}
 use Rattle.head.proofs.headers.put_restarts.Tie as tie
 
@@ -39,7 +39,7 @@ unfolding spelled
 returns-2 c =
     let put = c .before .before in
     let s = put .before .before .before .before .before in
-    rw (some-restarts (s .args .interval) (put .before .before .before .if1 .left)) (as-put (put .put-segment .ensures))
+    rw (some-restarts (s .args .interval) (put .before .before .before .if1 .left)) (put .put-segment .ensures)
 
 pub put-restarts-spec : {M : Type 1} → statement M
 put-restarts-spec =

@@ -2,7 +2,6 @@
 use borrow.Author.Needs.{needs}
 use mathlib.Core.List.{flatMap}
 use Rattle.head.specs.Head.{scanHeader}
-use Rattle.head.specs.Segment.{as-put}
 use Rattle.head.proofs.headers.put_scan.Statement.{statement}
 use Rattle.head.proofs.headers.put_scan.Tie as tie
 
@@ -23,7 +22,7 @@ same-length c = search needs
 
 returns : tie.Need-returns
 unfolding scanHeader flatMap
-returns c = as-put (c .before .before .put-segment .ensures)
+returns c = c .before .before .put-segment .ensures
 
 pub put-scan-spec : {M : Type 1} → statement M
 put-scan-spec =
