@@ -1,15 +1,15 @@
 -- What the builder makes of a whole picture. Assumes nothing.
 use Prim.Native.Nat.{ℕ, _≤_}
 use mathlib.Core.List.{List, _++_, append-assoc}
-use mathlib.Core.Path.{_≡_, sym, ap, _∙_}
+use mathlib.Core.Path.{_≡_, _∙_}
 use native.Mathlib.Omega.{arith}
 use borrow.Author.Tests.{le-ltb}
 use lib.ListN.{length, take, drop}
 use Rattle.head.specs.Head.{head}
 use Rattle.laws.specs.Each.{Each}
 use Rattle.laws.specs.Truth.{same}
-use Rattle.replies.specs.Checks.{Numbered, judged, refused-by, start, passes, none-left}
-use Rattle.replies.specs.Output.{succeeded, decided-write, decided-refuse, success-wrote, wrote-front}
+use Rattle.replies.specs.Checks.{Numbered, judged, start, passes, none-left}
+use Rattle.replies.specs.Output.{succeeded, success-checked}
 use Rattle.replies.specs.Reply
 use Rattle.replies.specs.declared.Judged.the-variants.{Passed}
 use Rattle.replies.specs.declared.Written.{Written}
@@ -39,8 +39,5 @@ module _ (r : Receiver) (area : List ℕ) {before after : List ℕ} {w : Written
     pub success-built : Buildable r area × (w .length ≡ length (fileOf r area)) × (take (w .length) after ≡ fileOf r area)
     unfolding building
     success-built =
-        let j = judged (checks r area) in
-        let bytes = fileOf r area in
-        let t = success-wrote builds success (λ e. omega arith) (λ n e z. refused-by (λ (n : ℕ). n ≡ Reply.success → ⊥) (checks r area) numbered (decided-refuse j bytes e) z) in
-        let d = decided-write j bytes (t .decision) in
-        (buildable r area (d .0), t .long ∙ ap length (sym (d .1)), wrote-front t ∙ sym (d .1))
+        let t = success-checked (checks r area) (fileOf r area) builds success (λ e. omega arith) numbered in
+        (buildable r area (t .0), t .1, t .2)

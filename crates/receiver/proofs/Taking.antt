@@ -1,8 +1,8 @@
 -- What an accepted packet makes of the picture that it is for, in the parts in which the code makes it. Assumes nothing.
 use Prim.Native.Nat.{ℕ, _+_, _≤_, _<_}
-use mathlib.Core.Bool.{Bool, true, false, cond}
+use mathlib.Core.Bool.{true, cond}
 use mathlib.Core.List.{List}
-use mathlib.Core.Path.{_≡_, refl, sym, ap, _∙_}
+use mathlib.Core.Path.{_≡_, sym, ap, _∙_}
 use native.Mathlib.Omega.{arith}
 use lib.Dec.{eqb}
 use lib.ListN.{length, take, drop}
@@ -16,7 +16,7 @@ use Rattle.laws.specs.Insert.{insertAt}
 use Rattle.laws.specs.Put.{put}
 use Rattle.slices.specs.Slices.{putAt, put-fits}
 use Rattle.state.specs.Receiver.{heldFragments}
-use Rattle.state.specs.WellFormed.{flag, well-formed}
+use Rattle.state.specs.WellFormed.{flag-told, well-formed}
 use Rattle.state.specs.declared.Receiver.{Receiver}
 use Rattle.wire.specs.Readable.{scan-long}
 use Rattle.wire.specs.Reading.{scanIn}
@@ -69,10 +69,6 @@ pub same-answer : {reply reply′ n n′ : ℕ} {r r′ : Receiver} → reply �
 same-answer a b c = cc
 
 -- the flag of a picture with an accepted packet
-pub flag-told : (r : Receiver) (p : List ℕ) (s : Packet) → eqb (taken r p s .whole) 1 ≡ whole (heldFragments (taken r p s))
+pub taken-told : (r : Receiver) (p : List ℕ) (s : Packet) → eqb (taken r p s .whole) 1 ≡ whole (heldFragments (taken r p s))
 unfolding taken
-flag-told r p s = rw (held-padded (insert (fragmentOf s) (heldFragments r))) (told (whole (insert (fragmentOf s) (heldFragments r))))
-  where
-    told : (b : Bool) → eqb (flag b) 1 ≡ b
-    told true = refl
-    told false = refl
+taken-told r p s = rw (held-padded (insert (fragmentOf s) (heldFragments r))) (flag-told (whole (insert (fragmentOf s) (heldFragments r))))

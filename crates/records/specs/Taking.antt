@@ -1,7 +1,7 @@
 -- A record taken: its packet goes to the receiver. Assumes nothing.
+use Prim.Native.Nat.{ℕ}
 use mathlib.Core.List.{List}
 use mathlib.Core.Path.{_≡_}
-use Prim.Native.Nat.{ℕ}
 use Rattle.receiver.specs.Step.{received, areaAfter}
 use Rattle.state.specs.declared.Receiver.{Receiver}
 use Rattle.records.specs.Framing as Framing

@@ -8,7 +8,9 @@ use borrow.Author.Tests.{lt-ltb, le-ltb}
 use lib.Dec.{ltb}
 use lib.ListN.{length, take, drop}
 use lib.Seq.{take-append-seam}
+use Rattle.laws.specs.Each.{Each}
 use Rattle.laws.specs.Truth.{split}
+use Rattle.replies.specs.Checks.{Check, Numbered, judged, refused-by}
 use Rattle.replies.specs.Reply
 use Rattle.replies.specs.declared.Judged.{Judged}
 use Rattle.replies.specs.declared.Judged.the-variants.{Passed, Refused}
@@ -93,6 +95,13 @@ pub wrote-front : {d : Decision} {before : List ℕ} {w : Written} {after : List
 wrote-front {d} {before} {w} {after} t =
     let past = drop (length (t .bytes)) before in
     ap (λ (l : List ℕ). take (w .length) l) (t .output) ∙ ap (λ (n : ℕ). take n (t .bytes ++ past)) (t .long) ∙ take-append-seam (t .bytes) past
+
+-- the same where checks decide, none of which refuses with that number: they have passed, and the bytes stand in front
+pub success-checked : {short : ℕ} {before after : List ℕ} {w : Written} (checks : List Check) (bytes : List ℕ) → Writes short (decided (judged checks) bytes) before w after → w .reply ≡ Reply.success → (short ≡ Reply.success → ⊥) → Each (Numbered (λ (n : ℕ). n ≡ Reply.success → ⊥)) checks → (judged checks ≡ Passed) × (w .length ≡ length bytes) × (take (w .length) after ≡ bytes)
+success-checked checks bytes a success full numbered =
+    let t = success-wrote a success full (λ n e z. refused-by (λ (n : ℕ). n ≡ Reply.success → ⊥) checks numbered (decided-refuse (judged checks) bytes e) z) in
+    let d = decided-write (judged checks) bytes (t .decision) in
+    (d .0, t .long ∙ ap length (sym (d .1)), wrote-front t ∙ sym (d .1))
 
 pub writes-refused : {short n : ℕ} {before : List ℕ} {w : Written} → w ≡ refused n → Writes short (refuse n) before w before
 writes-refused e = record { answer = e; output = refl }

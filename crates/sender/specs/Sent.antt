@@ -1,15 +1,15 @@
 -- The packets of a picture that the sender takes. Assumes nothing.
 use Prim.Native.Nat.{ℕ, suc, _+_, _^_, _≤_, _<_}
 use mathlib.Core.List.{List}
-use mathlib.Core.Path.{_≡_, sym, ap, _∙_}
+use mathlib.Core.Path.{_≡_}
 use native.Mathlib.Omega.{arith}
 use lib.ListN.{length, take}
 use Rattle.fragments.specs.Fragments.{fragmentAt}
 use Rattle.fragments.specs.Tiles.{Inside, tiles-inside}
 use Rattle.fragments.specs.declared.Fragment.{Fragment}
 use Rattle.laws.specs.Each.{Each}
-use Rattle.replies.specs.Checks.{Numbered, judged, refused-by}
-use Rattle.replies.specs.Output.{decided-write, decided-refuse, success-wrote, wrote-front}
+use Rattle.replies.specs.Checks.{Numbered}
+use Rattle.replies.specs.Output.{success-checked}
 use Rattle.replies.specs.Reply
 use Rattle.replies.specs.declared.Written.{Written}
 use Rattle.sender.specs.Cuts.{capacity, cuts, some-capacity, cuts-tile, cuts-filled}
@@ -75,14 +75,11 @@ module _ (p : Picture) (size : ℕ) (s : Stamp) (k : ℕ) {before : List ℕ} {w
   pub sent : Sent p size s k w after
   unfolding sending
   sent =
-      let j = judged (checks p size k) in
-      let bytes = packet s p k (fragmentAt (cuts size p) k) in
-      let t = success-wrote sends success (λ e. omega arith) (λ n e z. refused-by (λ (n : ℕ). n ≡ Reply.success → ⊥) (checks p size k) (numbered p size k) (decided-refuse j bytes e) z) in
-      let d = decided-write j bytes (t .decision) in
+      let t = success-checked (checks p size k) (packet s p k (fragmentAt (cuts size p) k)) sends success (λ e. omega arith) (numbered p size k) in
       record {
-        ok = accepted p size k (d .0);
-        long = t .long ∙ ap length (sym (d .1));
-        front = wrote-front t ∙ sym (d .1);
+        ok = accepted p size k (t .0);
+        long = t .1;
+        front = t .2;
       }
 
   pub success-read-back : s .time < 2 ^ 32 → s .source < 2 ^ 32 → ReadBack s p (fragmentAt (cuts size p) k) (take (w .length) after)

@@ -152,6 +152,14 @@ module _ (r : Receiver) where
       rw (is-within 1 65536 (r .room) (w .room .0) (w .room .1), le-leb (r .«fragment_count») 64 (w .count), is-in-place (r .room) fs (w .in-place), w .unused, w .picture, eq-eqb (r .end) (Held.endOf fs) (w .end), w .tables, w .kept)
       (eq-eqb (r .whole) (flag (Held.whole fs)) (w .whole))
 
+-- the flag tells whether the picture is whole
+pub flag-told : (b : Bool) → eqb (flag b) 1 ≡ b
+flag-told true = refl
+flag-told false = refl
+
+pub whole-told : {r : Receiver} → WellFormed r → eqb (r .whole) 1 ≡ Held.whole (heldFragments r)
+whole-told {r} w = rw (w .whole) (flag-told (Held.whole (heldFragments r)))
+
 -- it holds no more bytes than its room has
 pub held-within-room : {r : Receiver} → WellFormed r → Held.total (heldFragments r) ≤ r .room
 held-within-room {r} w =

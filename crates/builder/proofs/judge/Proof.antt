@@ -1,27 +1,15 @@
 -- `builder::judge` meets its contract: the checks in their order; the flag tells whether the picture is whole. Assumes nothing.
 use borrow.Author.Needs.{needs}
-use mathlib.Core.Bool.{true, false}
+use mathlib.Core.Bool.{true}
 use mathlib.Core.Path.{_≡_, sym, _∙_}
-use native.Mathlib.Omega.{arith}
-use Rattle.fragments.specs.Held as Held
-use Rattle.laws.specs.Truth.{split, same, other}
+use Rattle.laws.specs.Truth.{same, other}
 use Rattle.replies.specs.Checks.{start, passes, fails, none-left}
-use Rattle.state.specs.Receiver.{heldFragments}
-use Rattle.state.specs.WellFormed.{WellFormed, wellFormed, well-formed, holds-inspected, not-inspected}
-use Rattle.state.specs.declared.Receiver.{Receiver}
+use Rattle.state.specs.WellFormed.{wellFormed, well-formed, holds-inspected, not-inspected, whole-told}
 use Rattle.builder.proofs.judge.Statement.{statement}
 use Rattle.builder.proofs.judge.Tie as tie
 
 formed : (c : tie.After-enum-told) → wellFormed (c .before .before .before .before .args .receiver) ≡ true
 formed c = holds-inspected (c .before .before .before .before .args .receiver) (sym (c .before .before .inspect .ensures .0) ∙ c .enum-told .given .1) .0
-
--- the flag of a well-formed receiver
-module _ {r : Receiver} (w : WellFormed r) where
-  is-whole : r .whole ≡ 1 → Held.whole (heldFragments r) ≡ true
-  is-whole e = split (Held.whole (heldFragments r)) (λ t. t) (λ t. absurd (let f = rw t at (w .whole) in omega arith))
-
-  not-whole : (r .whole ≡ 1 → ⊥) → Held.whole (heldFragments r) ≡ false
-  not-whole n = split (Held.whole (heldFragments r)) (λ t. absurd (n (rw t at (w .whole)))) (λ t. t)
 
 inspect-requires : tie.Need-inspect-requires
 inspect-requires c κs = search needs
@@ -50,13 +38,13 @@ returns-3 : tie.Need-returns-3
 returns-3 c =
     let told = c .before .before .before .before in
     let s = told .before .before .before .before in
-    sym (fails (passes (passes start (rw (formed told))) (same _ _ (c .before .before .if1 .left))) (rw (not-whole (well-formed (s .args .receiver) (formed told)) (c .if2 .taken))))
+    sym (fails (passes (passes start (rw (formed told))) (same _ _ (c .before .before .if1 .left))) (rw (← whole-told (well-formed (s .args .receiver) (formed told))) (other _ _ (c .if2 .taken))))
 
 returns-4 : tie.Need-returns-4
 returns-4 c =
     let told = c .before .before .before .before in
     let s = told .before .before .before .before in
-    sym (none-left (passes (passes (passes start (rw (formed told))) (same _ _ (c .before .before .if1 .left))) (rw (is-whole (well-formed (s .args .receiver) (formed told)) (c .if2 .left)))))
+    sym (none-left (passes (passes (passes start (rw (formed told))) (same _ _ (c .before .before .if1 .left))) (rw (← whole-told (well-formed (s .args .receiver) (formed told))) (same _ _ (c .if2 .left)))))
 
 pub judge-spec : {M : Type 1} → statement M
 judge-spec =

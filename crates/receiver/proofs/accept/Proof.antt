@@ -15,7 +15,7 @@ use Rattle.receiver.specs.Laws.{held-taken}
 use Rattle.receiver.specs.Picture.{pictureFor}
 use Rattle.receiver.specs.Step.{taken}
 use Rattle.receiver.specs.declared.picture.Numbers.{Numbers}
-use Rattle.receiver.proofs.Taking.{total-after, held-small, written, same-answer, flag-told}
+use Rattle.receiver.proofs.Taking.{total-after, held-small, written, same-answer, taken-told}
 use Rattle.receiver.proofs.accept.Statement.{statement}
 use Rattle.receiver.proofs.accept.Tie as tie
 
@@ -71,7 +71,7 @@ returns c =
     let reply : r .reply-with .result ≡ cond (whole (heldFragments next)) Reply.whole Reply.held =
     r .reply-with .ensures
     ∙ ap (λ (x : Receiver). cond (eqb (x .whole) 1) Reply.whole Reply.held) receiver
-    ∙ ap (λ (b : Bool). cond b Reply.whole Reply.held) (flag-told v (now (a .packet)) (a .said)) in
+    ∙ ap (λ (b : Bool). cond b Reply.whole Reply.held) (taken-told v (now (a .packet)) (a .said)) in
     (same-answer reply held receiver, written known accepted (now (a .area)) (s .pre .0 .1) (scan .scan .ensures) (put .put .ensures))
 
 pub accept-spec : {M : Type 1} → statement M
