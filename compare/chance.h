@@ -11,14 +11,18 @@
 
 static uint64_t chance;
 
-/* The seed that the first argument gives, or 2435 where there is none. Other words than numbers end the program. */
-static inline uint64_t seed_given(const char *program, int argc, char **argv) {
-    if (argc < 2) return 2435;
+/* The number that this argument is, or another where there is none. Other words than numbers end the program. */
+static inline uint64_t number_given(const char *program, int argc, char **argv, int place, uint64_t otherwise) {
+    if (argc <= place) return otherwise;
     char *end;
-    uint64_t seed = strtoull(argv[1], &end, 0);
-    if (end != argv[1] && *end == '\0') return seed;
-    printf("%s: the seed is a number, and not %s\n", program, argv[1]);
+    uint64_t number = strtoull(argv[place], &end, 0);
+    if (end != argv[place] && *end == '\0') return number;
+    printf("%s: %s is not a number\n", program, argv[place]);
     exit(1);
+}
+
+static inline uint64_t seed_given(const char *program, int argc, char **argv) {
+    return number_given(program, argc, argv, 1, 2435);
 }
 
 static inline void begin_chance(uint64_t seed) {

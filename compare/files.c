@@ -1,11 +1,12 @@
-/* lj_build against a second builder, from document 01 and RFC 2435: it goes down a list of the file's segments, lets
- * each put what it holds, and takes all lengths from that. Of the Huffman tables it has only what follows no rule. The
- * receivers take pictures that lj_packet sends, or are written over in ways of which document 01 says plainly what they
- * make of a receiver. The first argument, if there is one, is the seed of all that is chosen by chance. */
+/* lj_build beside the second implementation of second.h, on the same receivers, areas and lengths: replies, lengths and
+ * every byte of the outputs must be equal. The receivers take pictures that lj_packet sends, or are written over in ways
+ * of which document 01 says plainly what they make of a receiver. What is known so of an answer is stated, and must hold
+ * of both. The first argument, if there is one, is the seed of all that is chosen by chance. */
 #include "built.h"
 #include "chance.h"
 #include "quantiser.h"
 #include "received.h"
+#include "second.h"
 
 #include <inttypes.h>
 
@@ -13,7 +14,7 @@ _Static_assert(LJ_SUCCESS == 0 && LJ_AREA_NOT_ROOM == 8 && LJ_NOT_WELL_FORMED ==
                    LJ_FILE_OUTPUT == 31 && LJ_FILE_BESIDE_SCAN == 611 + 2,
                "the header's numbers are document 01's");
 
-enum { FILE_MOST = 611 + 65536 + 2, LENGTH_MOST = LENT_MOST + LENT_BEYOND, HISTORIES = 1500 };
+enum { LENGTH_MOST = LENT_MOST + LENT_BEYOND, HISTORIES = 1500 };
 
 /* What one call is given, and what is known of the receiver from the way in which it was made. */
 typedef struct {
@@ -25,143 +26,12 @@ typedef struct {
 /* The area of the receiver at hand, and noise behind it; what is lent is a copy. */
 static uint8_t area[LENGTH_MOST], noise[4 * 65536];
 
-/* ---- The second builder ---- */
-
-typedef struct {
-    uint8_t bytes[FILE_MOST];
-    size_t length;
-} file;
-
-static void put(file *f, uint32_t byte) { f->bytes[f->length++] = (uint8_t)byte; }
-
-static void put_two(file *f, uint32_t n) {
-    put(f, n >> 8);
-    put(f, n & 255);
-}
-
-static void put_bytes(file *f, const uint8_t *from, size_t length) {
-    memcpy(f->bytes + f->length, from, length);
-    f->length += length;
-}
-
-static void quantiser(file *f, const lj_receiver *r, unsigned number) {
-    put(f, number); /* with 0 in the upper half: entries of 8 bits */
-    put_bytes(f, r->tables + 64 * number, 64);
-}
-
-static void interval(file *f, const lj_receiver *r, unsigned number) {
-    (void)number;
-    if (r->interval != 0) put_two(f, r->interval);
-}
-
-/* Sides in pixels. Luma has twice the chroma's samples across, and by types 1 and 65 also down. */
-static void frame(file *f, const lj_receiver *r, unsigned number) {
-    (void)number;
-    put(f, 8);
-    put_two(f, 8 * r->height);
-    put_two(f, 8 * r->width);
-    put(f, 3);
-    for (unsigned component = 0; component < 3; component++) {
-        put(f, component);
-        put(f, component ? 0x11 : r->kind % 2 ? 0x22 : 0x21);
-        put(f, component ? 1 : 0);
-    }
-}
-
-static void dc_codes(file *f, const lj_receiver *r, unsigned number) {
-    static const uint8_t counts[2][16] = {{0, 1, 5, 1, 1, 1, 1, 1, 1}, {0, 3, 1, 1, 1, 1, 1, 1, 1, 1, 1}};
-    (void)r;
-    put(f, number);
-    put_bytes(f, counts[number], 16);
-    for (unsigned size = 0; size <= 11; size++) put(f, size);
-}
-
-/* Each run of 0 to 15 zeros with a size of 1 to 10 behind it, the end of a block, and 16 zeros. */
-static int is_ac_symbol(unsigned symbol) {
-    unsigned size = symbol % 16;
-    return (1 <= size && size <= 10) || symbol == 0x00 || symbol == 0xf0;
-}
-
-/* The codes of up to 15 bits go to the symbols that T.81 found to be frequent; those of 16 bits to all others, rising. */
-static void ac_codes(file *f, const lj_receiver *r, unsigned number) {
-    static const uint8_t counts[2][16] = {{0, 2, 1, 3, 3, 2, 4, 3, 5, 5, 4, 4, 0, 0, 1, 125},
-                                          {0, 2, 1, 2, 4, 4, 3, 4, 7, 5, 4, 4, 0, 1, 2, 119}};
-    static const uint8_t luma[] = {0x01, 0x02, 0x03, 0x00, 0x04, 0x11, 0x05, 0x12, 0x21, 0x31, 0x41, 0x06, 0x13,
-                                   0x51, 0x61, 0x07, 0x22, 0x71, 0x14, 0x32, 0x81, 0x91, 0xa1, 0x08, 0x23, 0x42,
-                                   0xb1, 0xc1, 0x15, 0x52, 0xd1, 0xf0, 0x24, 0x33, 0x62, 0x72, 0x82};
-    static const uint8_t chroma[] = {0x00, 0x01, 0x02, 0x03, 0x11, 0x04, 0x05, 0x21, 0x31, 0x06, 0x12,
-                                     0x41, 0x51, 0x07, 0x61, 0x71, 0x13, 0x22, 0x32, 0x81, 0x08, 0x14,
-                                     0x42, 0x91, 0xa1, 0xb1, 0xc1, 0x09, 0x23, 0x33, 0x52, 0xf0, 0x15,
-                                     0x62, 0x72, 0xd1, 0x0a, 0x16, 0x24, 0x34, 0xe1, 0x25, 0xf1};
-    const uint8_t *frequent = number ? chroma : luma;
-    size_t length = number ? sizeof chroma : sizeof luma;
-    uint8_t has_code[256] = {0};
-    (void)r;
-    put(f, 1 << 4 | number);
-    put_bytes(f, counts[number], 16);
-    put_bytes(f, frequent, length);
-    for (size_t i = 0; i < length; i++) has_code[frequent[i]] = 1;
-    for (unsigned symbol = 0; symbol < 256; symbol++)
-        if (is_ac_symbol(symbol) && !has_code[symbol]) put(f, symbol);
-}
-
-static void scan_header(file *f, const lj_receiver *r, unsigned number) {
-    (void)r;
-    (void)number;
-    put(f, 3);
-    for (unsigned component = 0; component < 3; component++) {
-        put(f, component);
-        put(f, component ? 0x11 : 0x00); /* the DC table in the upper half, the AC table in the lower */
-    }
-    put(f, 0);
-    put(f, 63);
-    put(f, 0);
-}
-
-typedef struct {
-    uint8_t marker;
-    void (*hold)(file *, const lj_receiver *, unsigned);
-    unsigned number;
-} segment;
-
-static const segment segments[] = {{0xdb, quantiser, 0}, {0xdb, quantiser, 1}, {0xdd, interval, 0},
-                                   {0xc0, frame, 0},     {0xc4, dc_codes, 0},  {0xc4, ac_codes, 0},
-                                   {0xc4, dc_codes, 1},  {0xc4, ac_codes, 1},  {0xda, scan_header, 0}};
-
-/* A segment's length counts itself and not the marker. One that holds nothing is left out. */
-static void put_segment(file *f, const lj_receiver *r, const segment *s) {
-    size_t start = f->length;
-    put_two(f, 0xff00u | s->marker);
-    put_two(f, 0);
-    s->hold(f, r, s->number);
-    size_t length = f->length - start - 2;
-    f->bytes[start + 2] = (uint8_t)(length >> 8);
-    f->bytes[start + 3] = (uint8_t)length;
-    if (length == 2) f->length = start;
-}
-
-static void write_file(file *f, const lj_receiver *r) {
-    f->length = 0;
-    put_two(f, 0xffd8);
-    for (size_t i = 0; i < COUNT(segments); i++) put_segment(f, r, &segments[i]);
-    put_bytes(f, area, r->end);
-    if (r->end < 2 || memcmp(area + r->end - 2, "\xff\xd9", 2) != 0) put_two(f, 0xffd9);
-}
-
-static lj_written second(const call *c, file *f) {
-    if (c->broken) return (lj_written){9, 0};
-    if (c->area_len != c->receiver.room) return (lj_written){8, 0};
-    if (!c->whole) return (lj_written){30, 0};
-    write_file(f, &c->receiver);
-    if (c->out_len < f->length) return (lj_written){31, 0};
-    return (lj_written){0, (uint32_t)f->length};
-}
-
 /* ---- Comparing ---- */
 
 static uint64_t seed;
 static unsigned long compared, replies[LJ_FILE_OUTPUT + 1];
-static file theirs;
+static second_receiver second;
+static uint8_t theirs[LENGTH_MOST]; /* the second's output */
 
 /* The first difference ends the program, so that no caller has to hand it on. */
 static _Noreturn void stop(const call *c, const char *why) {
@@ -169,15 +39,7 @@ static _Noreturn void stop(const call *c, const char *why) {
     printf("files differ: %s\n  seed %" PRIu64 ", case %lu; area of %zu bytes, output of %zu; made %s, %s\n", why, seed,
            compared, c->area_len, c->out_len, c->broken ? "not well formed" : "well formed",
            c->whole ? "whole" : "not whole");
-    printf("  room %" PRIu32 ", picture %" PRIu32 ", time %" PRIu32 ", type %" PRIu32 ", q %" PRIu32 ", %" PRIu32
-           " by %" PRIu32 ", interval %" PRIu32 ", end %" PRIu32 ", whole %" PRIu32 ", kept q %" PRIu32 "\n",
-           r->room, r->picture, r->time, r->kind, r->q, r->width, r->height, r->interval, r->end, r->whole, r->kept.q);
-    printf("  %" PRIu32 " fragments (offset, length, marker):", r->fragment_count);
-    for (uint32_t i = 0; i < 64 && i < r->fragment_count; i++) {
-        lj_fragment f = r->fragments[i];
-        printf(" (%" PRIu32 ", %" PRIu32 ", %" PRIu32 ")", f.offset, f.length, f.marker);
-    }
-    printf("\n");
+    print_receiver("receiver", r);
     if (2 <= r->end && r->end <= sizeof area) printf("  scan ends in %02x %02x\n", area[r->end - 2], area[r->end - 1]);
     exit(1);
 }
@@ -189,23 +51,34 @@ static void compare_answers(const call *c, lj_written ours, lj_written right) {
     stop(c, "the answer is another one");
 }
 
-static void compare_files(const call *c, const uint8_t *ours, size_t length) {
-    if (memcmp(ours, theirs.bytes, length) == 0) return;
+/* The whole of both outputs: the file, and what is past it. */
+static void compare_outputs(const call *c, const uint8_t *ours, size_t length) {
+    if (memcmp(ours, theirs, length) == 0) return;
     size_t at = 0;
-    while (ours[at] == theirs.bytes[at]) at++;
-    printf("files: byte %zu is %02x and not %02x\n", at, ours[at], theirs.bytes[at]);
-    stop(c, "the file is another one");
+    while (ours[at] == theirs[at]) at++;
+    printf("files: byte %zu is %02x and not %02x\n", at, ours[at], theirs[at]);
+    stop(c, "the output is another one");
 }
 
-/* One comparison; answers what both builders answered. The second's file, if there is one, is in `theirs`. */
+/* Hands the second the receiver, which it must find to be what it was made: broken or not, whole or not. */
+static void load_second(const call *c) {
+    second_load(&second, &c->receiver);
+    if (second.well_formed == (uint32_t)c->broken || (!c->broken && second.whole != (uint32_t)c->whole))
+        stop(c, "the second takes the receiver for another one than was made");
+}
+
+/* One comparison; answers what both builders answered. */
 static lj_written same(const call *c, uint8_t fill) {
     const char *wrong;
-    lj_written right = second(c, &theirs), ours = built(&c->receiver, area, c->area_len, c->out_len, fill, &wrong);
+    lj_written ours = built(&c->receiver, area, c->area_len, c->out_len, fill, &wrong);
+    load_second(c);
+    memset(theirs, (uint8_t)~fill, c->out_len); /* as built.h fills the library's */
+    lj_written right = second_build(&second, area, c->area_len, theirs, c->out_len);
     compared++;
     replies[right.reply]++;
     compare_answers(c, ours, right);
     if (wrong != NULL) stop(c, wrong);
-    compare_files(c, built_file(), right.length);
+    compare_outputs(c, built_file(), c->out_len);
     return right;
 }
 
@@ -278,6 +151,11 @@ static size_t head_length(const lj_receiver *r) { return r->kind < 64 ? 605 : 61
 
 static const uint32_t types[] = {0, 1, 64, 65}, qs[] = {1, 50, 99, 128, 254, 255};
 
+static call some_picture(uint32_t scan_len) {
+    uint32_t type = ONE_OF(types);
+    return whole_picture(type, ONE_OF(qs), scan_len);
+}
+
 /* ---- Limits ---- */
 
 static const struct {
@@ -327,7 +205,7 @@ static void try_lengths(void) {
         if (area[i] == 0xff) area[i] = 0xfe;
     for (uint32_t n = 1; n <= 1310; n++) {
         uint32_t end = n <= 1300 ? n : 65536 + 1300 - n + 1;
-        call c = whole_picture(ONE_OF(types), ONE_OF(qs), end);
+        call c = some_picture(end);
         c.out_len = head_length(&c.receiver) + end + 2;
         stated(&c, 0, c.out_len);
         c.out_len -= 1;
@@ -382,7 +260,7 @@ static void try_places(const call *c) {
 #undef PLACE
     };
     for (size_t i = 0; i < COUNT(places); i++)
-        if (memcmp(theirs.bytes + places[i].at, places[i].bytes, places[i].length) != 0) {
+        if (memcmp(theirs + places[i].at, places[i].bytes, places[i].length) != 0) {
             printf("files: both from what is written out by hand for byte %zu and those behind it\n", places[i].at);
             stop(c, "document 01's example");
         }
@@ -471,9 +349,9 @@ static int break_header(lj_receiver *r) {
 
 /* Without a picture every number of one is 0. */
 static int break_nothing(lj_receiver *r) {
-    uint32_t *fields[] = {&r->time, &r->kind, &r->q, &r->width, &r->height, &r->interval};
+    uint32_t *fields[] = {&r->time, &r->kind, &r->q, &r->width, &r->height, &r->interval}, *field = ONE_OF(fields);
     if (r->picture == 1) return 0;
-    *ONE_OF(fields) = between(1, 64);
+    *field = between(1, 64);
     return 1;
 }
 
@@ -514,8 +392,9 @@ static int break_tables(lj_receiver *r) {
 
 static int break_kept(lj_receiver *r) {
     static const uint32_t none[] = {1, 50, 99, 127, 255, 256, 256 + 128, UINT32_MAX};
+    uint8_t *entry = &r->kept.tables[below(128)];
     if (below(2)) r->kept.q = ONE_OF(none);
-    else r->kept.tables[below(128)] = r->kept.q == 0 ? (uint8_t)between(1, 255) : 0;
+    else *entry = r->kept.q == 0 ? (uint8_t)between(1, 255) : 0;
     return 1;
 }
 
@@ -545,19 +424,19 @@ static void change_q(lj_receiver *r) {
     if (r->tables[0] != 0) tables_for(r->q, r->tables);
 }
 
-/* Whether or not they are the picture's: that is not tested. */
-static void change_kept(lj_kept *kept) {
-    memset(kept, 0, sizeof *kept);
+/* With the picture's Q too: whether they are its own tables is not tested. */
+static void change_kept(lj_receiver *r) {
+    memset(&r->kept, 0, sizeof r->kept);
     if (below(3) == 0) return;
-    kept->q = between(128, 254);
-    random_tables(kept->tables);
+    r->kept.q = 128 <= r->q && r->q <= 254 && below(2) ? r->q : between(128, 254);
+    random_tables(r->kept.tables);
 }
 
 static void change_lawfully(call *c) {
     lj_receiver *r = &c->receiver;
     switch (below(6)) {
     case 0: r->source = any(); break;
-    case 1: change_kept(&r->kept); break;
+    case 1: change_kept(r); break;
     case 2: give_room(c, below(8) == 0 ? 65536 : between(r->room, r->room < 65000 ? r->room + 500 : 65536)); break;
     case 3:
         if (r->picture) r->time = any();
@@ -598,7 +477,8 @@ static void choose_scan(uint32_t length) {
 
 /* A picture that this receiver takes, and sometimes one for which it has kept the tables. */
 static picture chosen_picture(const lj_receiver *r) {
-    picture p = {.type = ONE_OF(types), .q = below(3) == 0 ? between(1, 99) : below(2) ? 255 : between(128, 254)};
+    picture p = {.type = ONE_OF(types)};
+    p.q = below(3) == 0 ? between(1, 99) : below(2) ? 255 : between(128, 254);
     p.width = between(1, 255);
     p.height = between(1, 255);
     if (p.type >= 64) p.interval = between(1, below(2) ? 65535 : 300);
@@ -659,7 +539,7 @@ static call reached(void) {
 enum { NOT_FORMED = 1, NOT_ROOM = 2, TOO_SHORT = 4, SETS = 8 };
 
 static size_t other_area(const lj_receiver *r) {
-    size_t others[] = {r->room - 1, (size_t)r->room + 1, 0, r->end, below(2000), below(16) ? 1 : 65536};
+    size_t some = below(2000), others[] = {r->room - 1, (size_t)r->room + 1, 0, r->end, some, below(16) ? 1 : 65536};
     for (;;) {
         size_t length = ONE_OF(others);
         if (length != r->room && length <= LENGTH_MOST) return length;
@@ -670,11 +550,13 @@ static size_t other_area(const lj_receiver *r) {
 static size_t chosen_output(const call *c, int too_short) {
     size_t length = 605 + below(2000);
     if (c->whole) {
-        write_file(&theirs, &c->receiver);
-        length = theirs.length;
+        load_second(c);
+        length = second_build(&second, area, c->area_len, theirs, sizeof theirs).length;
+        if (length < 605) stop(c, "the second has no file of a whole picture");
     }
     const size_t shorter[] = {length - 1, length - 1, length - 2, 605, 604, 0, below((uint32_t)length)};
-    const size_t longer[] = {length, length, length + 1, length + below(700), below(16) ? length : LENGTH_MOST};
+    const size_t more = below(700);
+    const size_t longer[] = {length, length, length + 1, length + more, below(16) ? length : LENGTH_MOST};
     size_t chosen = too_short ? ONE_OF(shorter) : ONE_OF(longer);
     return too_short && length <= chosen ? length - 1 : chosen;
 }
@@ -713,7 +595,7 @@ static void try_reached(void) {
 /* A picture of which nothing is held yet: well formed, and not whole. lj_receive makes none such. */
 static void try_empty_picture(void) {
     for (int i = 0; i < 100; i++) {
-        call c = whole_picture(ONE_OF(types), ONE_OF(qs), between(1, 500));
+        call c = some_picture(between(1, 500));
         lj_receiver *r = &c.receiver;
         memset(r->fragments, 0, sizeof r->fragments);
         memset(r->tables, 0, sizeof r->tables);
@@ -727,26 +609,41 @@ static void try_empty_picture(void) {
 /* ---- Lengths that do not fit 32 bits ---- */
 
 #if SIZE_MAX > UINT32_MAX
+static const size_t over_32_bits = (size_t)UINT32_MAX + 1;
+
+static void try_far_area(call c, uint8_t *far) {
+    static uint8_t ours[LENGTH_MOST];
+    const lj_written refused = {LJ_AREA_NOT_ROOM, 0};
+    memcpy(far, area, c.area_len);
+    memset(theirs, 0, sizeof theirs);
+    c.area_len += over_32_bits;
+    load_second(&c);
+    compare_answers(&c, second_build(&second, far, c.area_len, theirs, sizeof theirs), refused);
+    compare_answers(&c, lj_build(c.receiver, far, c.area_len, ours, sizeof ours), refused);
+    compare_outputs(&c, ours, sizeof ours);
+}
+
+static void try_far_output(call c, uint8_t *far) {
+    load_second(&c);
+    memset(far, 0x5a, LENGTH_MOST);
+    lj_written right = second_build(&second, area, c.area_len, far, c.out_len);
+    memcpy(theirs, far, LENGTH_MOST);
+    memset(far, 0x5a, LENGTH_MOST);
+    compare_answers(&c, lj_build(c.receiver, area, c.area_len, far, c.out_len), right);
+    compare_outputs(&c, far, LENGTH_MOST);
+    if (right.reply != LJ_SUCCESS) stop(&c, "both find an output over 32 bits too short");
+}
+
 /* The memory is reserved and hardly used; a machine that has no such room says so. */
 static const char *try_far(void) {
-    const size_t over_32_bits = (size_t)UINT32_MAX + 1;
-    static uint8_t near[FILE_MOST];
     uint8_t *far = malloc(over_32_bits + LENGTH_MOST);
     if (far == NULL) return "not tried, no such memory";
     for (size_t t = 0; t < COUNT(types); t++) {
         fill_area();
         call c = whole_picture(types[t], 255, 100);
-        memcpy(far, area, 100);
-        c.area_len = over_32_bits + 100;
-        compare_answers(&c, lj_build(c.receiver, far, c.area_len, near, sizeof near), second(&c, &theirs));
-        if (near[0] != 0) stop(&c, "a refusal changed the output");
-        c.area_len = 100;
+        try_far_area(c, far);
         c.out_len = over_32_bits + 100 * t;
-        memset(far, 0x5a, LENGTH_MOST);
-        lj_written right = second(&c, &theirs);
-        compare_answers(&c, lj_build(c.receiver, area, 100, far, c.out_len), right);
-        compare_files(&c, far, right.length);
-        if (far[right.length] != 0x5a) stop(&c, "a byte was changed past the file");
+        try_far_output(c, far);
         compared += 2;
     }
     free(far);

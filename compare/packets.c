@@ -1,9 +1,8 @@
-/* lj_packet against a second sender, which goes through the whole frame as RFC 2435 Appendix C does: it sends packet
- * after packet from offset 0 and keeps the one that is asked for. It works out no offset, length or count beforehand.
- * The first argument, if there is one, is the seed of the scan and table bytes and of the cases chosen by chance. */
-#include "../include/ljosvark.h"
+/* lj_packet against the second sender of sender.h. The first argument, if there is one, is the seed of the scan and table
+ * bytes and of the cases chosen by chance. */
 #include "chance.h"
 #include "lent.h"
+#include "sender.h"
 
 #include <inttypes.h>
 
@@ -14,119 +13,10 @@ _Static_assert(LJ_SUCCESS == 0 && LJ_PARAMETERS == 40 && LJ_SCAN_LENGTH == 41 &&
 
 enum { SCANS = 3 * 65536, BY_CHANCE = 240000 };
 
-/* What one call is given. The scan is a stretch of scan_bytes. Neither scan_bytes nor the tables here are ever lent:
- * the second sender reads them, and a copy of them is lent. */
-typedef struct {
-    uint32_t type, q, width, height, interval;
-    const uint8_t *tables;
-    size_t tables_len, scan_at, scan_len;
-    uint32_t packet_size;
-    uint16_t start;
-    uint32_t time, source, k;
-    size_t out_len;
-} call;
-
+/* The scan of a call is a stretch of scan_bytes. Neither scan_bytes nor the tables here are ever lent: the second sender
+ * reads them, and a copy of them is lent. */
 static uint8_t scan_bytes[GUARD + SCANS + GUARD], scan_lent[GUARD + SCANS + GUARD];
 static uint8_t table_bytes[LENT_MOST], table_bytes_with_zero[LENT_MOST];
-
-/* ---- The second sender ---- */
-
-typedef struct {
-    uint8_t bytes[1472];
-    size_t length;
-} packet;
-
-/* One field, most significant byte first. */
-static void put(packet *p, int bytes, uint32_t value) {
-    while (bytes-- > 0) p->bytes[p->length++] = (uint8_t)(value >> 8 * bytes);
-}
-
-static void put_bytes(packet *p, const uint8_t *from, size_t length) {
-    memcpy(p->bytes + p->length, from, length);
-    p->length += length;
-}
-
-/* All that stands before the scan data of the packet at this offset. Whether it is the last is not known yet, so the
- * marker is left clear. */
-static void put_headers(packet *p, const call *c, uint16_t sequence, uint32_t offset) {
-    p->length = 0;
-    put(p, 1, 2 << 6); /* version 2, and no padding, extension or CSRC */
-    put(p, 1, 26);
-    put(p, 2, sequence);
-    put(p, 4, c->time);
-    put(p, 4, c->source);
-    put(p, 1, 0); /* type-specific */
-    put(p, 3, offset);
-    put(p, 1, c->type);
-    put(p, 1, c->q);
-    put(p, 1, c->width);
-    put(p, 1, c->height);
-    if (c->type >= 64) {
-        put(p, 2, c->interval);
-        put(p, 2, 1 << 15 | 1 << 14 | 0x3fff); /* F, L and the count of a frame to be put together first */
-    }
-    if (c->q >= 128 && offset == 0) {
-        put(p, 1, 0);
-        put(p, 1, 0); /* precision */
-        put(p, 2, (uint32_t)c->tables_len);
-        put_bytes(p, c->tables, c->tables_len);
-    }
-}
-
-/* Sends the frame, keeps packet k of it if there is one, and answers how many packets went out. */
-static uint32_t send_frame(const call *c, packet *kept) {
-    uint32_t sent = 0;
-    uint16_t sequence = c->start;
-    size_t offset = 0, left = c->scan_len;
-    packet now;
-    while (left > 0) {
-        put_headers(&now, c, sequence, (uint32_t)offset);
-        size_t share = c->packet_size - now.length;
-        if (left <= share) {
-            share = left;
-            now.bytes[1] |= 0x80; /* the marker */
-        }
-        put_bytes(&now, scan_bytes + c->scan_at + offset, share);
-        if (sent == c->k) {
-            memcpy(kept->bytes, now.bytes, now.length);
-            kept->length = now.length;
-        }
-        offset += share;
-        left -= share;
-        sequence++;
-        sent++;
-    }
-    return sent;
-}
-
-static int parameters_right(const call *c) {
-    int plain = c->type == 0 || c->type == 1, restarts = c->type == 64 || c->type == 65;
-    if (!plain && !restarts) return 0;
-    if (plain && c->interval != 0) return 0;
-    if (restarts && (c->interval == 0 || 65535 < c->interval)) return 0;
-    if (!(1 <= c->q && c->q <= 99) && !(128 <= c->q && c->q <= 255)) return 0;
-    return 1 <= c->width && c->width <= 255 && 1 <= c->height && c->height <= 255;
-}
-
-static int tables_right(const call *c) {
-    if (c->q <= 99) return c->tables_len == 0;
-    if (c->tables_len == 0) return c->q != 255;
-    return c->tables_len == 128 && memchr(c->tables, 0, 128) == NULL;
-}
-
-static lj_written second(const call *c, uint8_t *out) {
-    if (!parameters_right(c)) return (lj_written){40, 0};
-    if (c->scan_len < 1 || 65536 < c->scan_len) return (lj_written){41, 0};
-    if (c->packet_size < 192 || 1472 < c->packet_size) return (lj_written){42, 0};
-    if (!tables_right(c)) return (lj_written){43, 0};
-    packet kept;
-    uint32_t sent = send_frame(c, &kept);
-    if (64 < sent) return (lj_written){44, 0};
-    if (sent <= c->k) return (lj_written){45, 0};
-    if (c->out_len < kept.length) return (lj_written){46, 0};
-    memcpy(out, kept.bytes, kept.length);
-    return (lj_written){0, (uint32_t)kept.length};
-}
 
 /* ---- Comparing ---- */
 
@@ -141,7 +31,7 @@ static void print_hex(const char *name, const uint8_t *bytes, size_t length, siz
     printf(most < length ? " ..\n" : "\n");
 }
 
-static void print_call(const call *c) {
+static void print_call(const sending *c) {
     printf("  seed %" PRIu64 ", case %lu\n", seed, compared);
     printf("  type %" PRIu32 ", q %" PRIu32 ", width %" PRIu32 ", height %" PRIu32 ", interval %" PRIu32 "\n",
            c->type, c->q, c->width, c->height, c->interval);
@@ -149,28 +39,31 @@ static void print_call(const call *c) {
            c->packet_size, c->start, c->time, c->source, c->k);
     printf("  output, %zu bytes\n", c->out_len);
     print_hex("tables", c->tables, c->tables_len, 129);
-    print_hex("scan", scan_bytes + c->scan_at, c->scan_len, 64);
+    print_hex("scan", c->scan, c->scan_len, 64);
 }
 
 /* The first difference ends the program, so that no caller has to hand it on. */
-static _Noreturn void stop(const call *c) {
+static _Noreturn void stop(const sending *c) {
     print_call(c);
     exit(1);
 }
 
-static lj_written called(const call *c, const uint8_t *tables, const uint8_t *scan, uint8_t *out) {
-    return lj_packet(c->type, c->q, c->width, c->height, c->interval, tables, c->tables_len, scan, c->scan_len,
-                     c->packet_size, c->start, c->time, c->source, c->k, out, c->out_len);
+static lj_written called(sending c, const uint8_t *tables, const uint8_t *scan, uint8_t *out) {
+    c.tables = tables;
+    c.scan = scan;
+    return asked(&c, out);
 }
 
-/* Tables between guards like the output's. The scan lies among the other bytes of scan_lent, a twin of scan_bytes:
+/* The place in scan_lent, a twin of scan_bytes, that the scan has in scan_bytes. */
+static uint8_t *lent_scan(const sending *c) { return scan_lent + (c->scan - scan_bytes); }
+
+/* Tables between guards like the output's. The scan lies among the other bytes of scan_lent:
  * some scans are longer than a `lent` holds, and copying the long ones for each call would take most of the time. */
-static lj_written between_guards(const call *c, uint8_t *out, uint8_t fill) {
+static lj_written between_guards(const sending *c, uint8_t *out, uint8_t fill) {
     uint8_t *tables = lend_copy(&tables_lent, c->tables, c->tables_len, fill);
-    lj_written ours = called(c, tables, scan_lent + c->scan_at, out);
-    size_t from = c->scan_at - GUARD;
+    lj_written ours = called(*c, tables, lent_scan(c), out);
     inputs_kept = all_wanted(&tables_lent) &&
-                  memcmp(scan_lent + from, scan_bytes + from, GUARD + c->scan_len + GUARD) == 0;
+                  memcmp(lent_scan(c) - GUARD, c->scan - GUARD, GUARD + c->scan_len + GUARD) == 0;
     return ours;
 }
 
@@ -190,12 +83,12 @@ static int alike(const uint8_t *a, const uint8_t *b, size_t length) {
 
 /* Each of the three in heap memory of exactly its length, so that whoever watches the heap sees a step past an end, and
  * memory of no bytes at NULL. What was written goes back to `out`, where it is compared. */
-static lj_written on_heap(const call *c, uint8_t *out) {
+static lj_written on_heap(const sending *c, uint8_t *out) {
     uint8_t *tables = heap_copy(c->tables, c->tables_len);
-    uint8_t *scan = heap_copy(scan_bytes + c->scan_at, c->scan_len);
+    uint8_t *scan = heap_copy(c->scan, c->scan_len);
     uint8_t *own = heap_copy(out, c->out_len);
-    lj_written ours = called(c, tables, scan, own);
-    inputs_kept = alike(tables, c->tables, c->tables_len) && alike(scan, scan_bytes + c->scan_at, c->scan_len);
+    lj_written ours = called(*c, tables, scan, own);
+    inputs_kept = alike(tables, c->tables, c->tables_len) && alike(scan, c->scan, c->scan_len);
     if (c->out_len != 0) memcpy(out, own, c->out_len);
     free(tables);
     free(scan);
@@ -206,9 +99,9 @@ static lj_written on_heap(const call *c, uint8_t *out) {
 enum place { GUARDS, HEAP };
 
 /* One comparison; answers what both senders answered. */
-static lj_written same(const call *c, uint8_t fill, enum place place) {
+static lj_written same(const sending *c, uint8_t fill, enum place place) {
     uint8_t *out = lend(&output, c->out_len, fill);
-    lj_written theirs = second(c, wanted(&output));
+    lj_written theirs = second_packet(c, wanted(&output));
     lj_written ours = place == HEAP ? on_heap(c, out) : between_guards(c, out, (uint8_t)~fill);
     compared++;
     replies[theirs.reply]++;
@@ -227,7 +120,7 @@ static lj_written same(const call *c, uint8_t fill, enum place place) {
 /* A case whose reply is stated, so that both senders being wrong alike shows too: by document 01's limits, and where the
  * number or the length of the packets decides, by the second sender's walk or by hand. Two fills, so that a byte written
  * as it was before shows in one of them. */
-static void stated(const call *c, uint32_t reply) {
+static void stated(const sending *c, uint32_t reply) {
     uint32_t answered = same(c, 0x00, GUARDS).reply;
     same(c, 0xa5, GUARDS);
     same(c, 0x5a, HEAP);
@@ -247,25 +140,25 @@ static void fill_bytes(void) {
 /* ---- Limits ---- */
 
 /* Bytes of scan data in a full packet: each behind the first, and the first. Only to choose cases near a packet's end. */
-static uint32_t later_room(const call *c) { return c->packet_size - (c->type >= 64 ? 24 : 20); }
+static uint32_t later_room(const sending *c) { return c->packet_size - (c->type >= 64 ? 24 : 20); }
 
-static uint32_t first_room(const call *c) {
+static uint32_t first_room(const sending *c) {
     return later_room(c) - (c->q >= 128 ? 4 + (uint32_t)c->tables_len : 0);
 }
 
-static uint32_t packets_of(const call *c) {
+static uint32_t packets_of(const sending *c) {
     packet kept;
     return send_frame(c, &kept);
 }
 
 /* A right call for packet 0 of a few, to be changed in one place by each trial below. */
-static call right_call(uint32_t type, uint32_t q, size_t tables_len) {
-    return (call){.type = type, .q = q, .width = 40, .height = 30, .interval = type >= 64 ? 0x1234 : 0,
-                  .tables = table_bytes, .tables_len = tables_len, .scan_at = GUARD + 1000, .scan_len = 500,
+static sending right_call(uint32_t type, uint32_t q, size_t tables_len) {
+    return (sending){.type = type, .q = q, .width = 40, .height = 30, .interval = type >= 64 ? 0x1234 : 0,
+                  .tables = table_bytes, .tables_len = tables_len, .scan = scan_bytes + GUARD + 1000, .scan_len = 500,
                   .packet_size = 192, .start = 0xfffe, .time = 0x01020304, .source = 0xa1b2c3d4, .out_len = 1600};
 }
 
-static void try_packet_sizes(call c) {
+static void try_packet_sizes(sending c) {
     static const uint32_t sizes[] = {0, 1, 20, 24, 36, 156, 157, 191, 192, 193, 255, 256, 1471, 1472, 1473, 1474,
                                      65535, 65536 + 192, 65536 + 1472, UINT32_MAX};
     for (size_t i = 0; i < COUNT(sizes); i++) {
@@ -275,7 +168,7 @@ static void try_packet_sizes(call c) {
 }
 
 /* At each length: packet 0, the last one, one past it, and the largest number. */
-static void try_scan_lengths(call c) {
+static void try_scan_lengths(sending c) {
     static const size_t lengths[] = {1, 2, 36, 37, 168, 169, 172, 173, 255, 256, 11008, 11009, 65535, 65536};
     static const size_t refused[] = {0, 65537, 65536 + 172, 2 * 65536};
     static const uint32_t sizes[] = {192, 193, 600, 1044, 1472};
@@ -299,7 +192,7 @@ static void try_scan_lengths(call c) {
 
 /* 64 full packets and one byte more, from the smallest packet size to the first at which 65,536 bytes fit, and the
  * largest. */
-static void try_64_packets(call c) {
+static void try_64_packets(sending c) {
     static const uint32_t sizes[] = {192,  193,  500,  1000, 1043, 1044, 1045, 1046,
                                      1047, 1048, 1049, 1050, 1051, 1052, 1472};
     static const uint32_t ks[] = {0, 1, 63, 64, 65, UINT32_MAX};
@@ -320,7 +213,7 @@ static void try_64_packets(call c) {
 }
 
 /* Among the large ones are those whose product with 172 or 168 is a small number modulo 2^32. */
-static void try_indexes(call c) {
+static void try_indexes(sending c) {
     static const uint32_t ks[] = {0,        1,        2,   3,     4,     5,     63,         64,
                                   255,      256,      257, 65535, 65536, 65537, UINT32_MAX, UINT32_MAX - 1,
                                   1u << 29, 1u << 30, 1u << 31, (1u << 29) + 1, (1u << 30) + 1, (1u << 31) + 1};
@@ -332,7 +225,7 @@ static void try_indexes(call c) {
 }
 
 /* Enough is the length of this very packet, and not the packet size. */
-static void try_outputs(call c) {
+static void try_outputs(sending c) {
     static const size_t lengths[] = {1, 172, 500};
     for (size_t i = 0; i < COUNT(lengths); i++) {
         c.scan_len = lengths[i];
@@ -350,7 +243,7 @@ static void try_outputs(call c) {
     }
 }
 
-static void try_tables(call c) {
+static void try_tables(sending c) {
     static const size_t lengths[] = {0, 1, 2, 63, 64, 65, 127, 128, 129, 192, 255, 256, 384, LENT_MOST};
     static const size_t places[] = {0, 1, 62, 63, 64, 65, 126, 127};
     for (size_t i = 0; i < COUNT(lengths); i++) {
@@ -371,7 +264,7 @@ static void try_tables(call c) {
     table_bytes_with_zero[128] = table_bytes[128];
 }
 
-static void try_intervals(call c) {
+static void try_intervals(sending c) {
     static const uint32_t intervals[] = {0,     1,     2,     127,   128,         254,      255,       256,
                                          65534, 65535, 65536, 65537, 65536 + 255, 1u << 31, UINT32_MAX};
     for (size_t i = 0; i < COUNT(intervals); i++) {
@@ -382,7 +275,7 @@ static void try_intervals(call c) {
 }
 
 /* Every type of a byte, and larger ones that are right modulo a power of 2, each with an interval and without. */
-static void try_types(call c) {
+static void try_types(sending c) {
     static const uint32_t larger[] = {256, 257, 320, 321, 65536, 65536 + 64, 1u << 31, (1u << 31) + 65, UINT32_MAX};
     for (uint32_t i = 0; i < 256 + COUNT(larger); i++) {
         c.type = i < 256 ? i : larger[i - 256];
@@ -394,7 +287,7 @@ static void try_types(call c) {
 }
 
 /* Every Q to 600 and larger ones, each with the tables of the call. */
-static void try_qs(call c) {
+static void try_qs(sending c) {
     static const uint32_t larger[] = {65536 + 50, 65536 + 200, 65536 + 255, 1u << 31, (1u << 31) + 50, UINT32_MAX};
     for (uint32_t i = 0; i <= 600 + COUNT(larger); i++) {
         uint32_t q = c.q = i <= 600 ? i : larger[i - 601];
@@ -404,7 +297,7 @@ static void try_qs(call c) {
     }
 }
 
-static void try_sides(call c) {
+static void try_sides(sending c) {
     static const uint32_t sides[] = {0,   1,   2,   127, 128,   254,   255,      256,
                                      257, 511, 512, 65536, 65537, 1u << 31, UINT32_MAX};
     for (size_t i = 0; i < COUNT(sides) * COUNT(sides); i++) {
@@ -415,7 +308,7 @@ static void try_sides(call c) {
     }
 }
 
-static void try_numbers(call c) {
+static void try_numbers(sending c) {
     static const uint32_t numbers[] = {0, 1, 0xff, 0xff00, 0xff0000, 0x7fffffff, 0x80000000, 0xff000000, UINT32_MAX};
     for (size_t i = 0; i < COUNT(numbers) * COUNT(numbers); i++) {
         c.time = numbers[i % COUNT(numbers)];
@@ -426,13 +319,13 @@ static void try_numbers(call c) {
 }
 
 /* All packets of a picture, and one past the last. */
-static void try_whole(call c) {
+static void try_whole(sending c) {
     uint32_t packets = packets_of(&c);
     for (c.k = 0; c.k <= packets; c.k++) stated(&c, c.k < packets ? 0 : 45);
 }
 
 /* Pictures that end within a packet, at its end, and with one byte in the next; sequences that go past 65,535. */
-static void try_every_packet(call c) {
+static void try_every_packet(sending c) {
     static const uint32_t sizes[] = {192, 193, 700, 1472};
     static const uint16_t starts[] = {0, 255, 32767, 65534, 65535};
     for (size_t i = 0; i < COUNT(sizes); i++) {
@@ -454,7 +347,7 @@ static void try_every_packet(call c) {
 /* ---- Several faults at once ---- */
 
 /* Makes a call wrong so that this refusal is due, in a way that the turn chooses. */
-static void spoil(call *c, unsigned refusal, unsigned turn) {
+static void spoil(sending *c, unsigned refusal, unsigned turn) {
     static const uint32_t scans[] = {0, 65537, 65536 + 172}, sizes[] = {191, 1473, 0, 65536 + 192, UINT32_MAX};
     static const uint32_t ks[] = {UINT32_MAX, 64, 1u << 30}, outputs[] = {0, 191, 20, 1};
     static const size_t tables[] = {127, 129, 1, 128};
@@ -479,12 +372,12 @@ static void spoil(call *c, unsigned refusal, unsigned turn) {
 }
 
 /* Each set of the seven refusals: the lowest number is given. 44 is made before 41, which then decides the scan. */
-static void try_order(call c) {
+static void try_order(sending c) {
     static const unsigned made[] = {44, 41, 42, 43, 45, 46, 40};
     table_bytes_with_zero[77] = 0;
     for (unsigned set = 0; set < 128; set++)
         for (unsigned turn = 0; turn < 5; turn++) {
-            call spoilt = c;
+            sending spoilt = c;
             uint32_t lowest = 0;
             for (size_t i = 0; i < COUNT(made); i++)
                 if (set >> (made[i] - 40) & 1) spoil(&spoilt, made[i], turn + set);
@@ -496,7 +389,7 @@ static void try_order(call c) {
 }
 
 static void try_limits(void) {
-    static void (*const trials[])(call) = {try_packet_sizes, try_scan_lengths, try_64_packets, try_indexes, try_outputs,
+    static void (*const trials[])(sending) = {try_packet_sizes, try_scan_lengths, try_64_packets, try_indexes, try_outputs,
                                            try_tables,       try_intervals,    try_types,      try_qs,      try_sides,
                                            try_numbers,      try_every_packet, try_order};
     static const uint32_t types[] = {0, 1, 64, 65}, qs[] = {1, 50, 99, 128, 128, 254, 254, 255};
@@ -510,20 +403,20 @@ static void try_limits(void) {
 /* ---- Packets written out by hand ---- */
 
 /* Packet k is this head, the tables if it has them, and the scan from one place to another. */
-static void by_hand(call c, uint32_t k, const char *head, size_t head_len, int tables, size_t from, size_t to) {
+static void by_hand(sending c, uint32_t k, const char *head, size_t head_len, int tables, size_t from, size_t to) {
     uint8_t right[1472], written[1472];
     size_t length = head_len;
     memcpy(right, head, head_len);
     if (tables) memcpy(right + length, c.tables, 128);
     if (tables) length += 128;
-    memcpy(right + length, scan_bytes + c.scan_at + from, to - from);
+    memcpy(right + length, c.scan + from, to - from);
     length += to - from;
     c.k = k;
     c.out_len = length - 1;
     stated(&c, 46);
     c.out_len = length;
     stated(&c, 0);
-    if (second(&c, written).length == length && memcmp(written, right, length) == 0) return;
+    if (second_packet(&c, written).length == length && memcmp(written, right, length) == 0) return;
     printf("packets differ: both senders from the packet written out by hand\n");
     stop(&c);
 }
@@ -533,7 +426,7 @@ static void by_hand(call c, uint32_t k, const char *head, size_t head_len, int t
 /* Document 01's own lines on packets of 192 bytes, and a Q above 127 without tables, with the bytes. */
 static void try_by_hand(void) {
 #define STAMP "\x01\x02\x03\x04\xa1\xb2\xc3\xd4"
-    call c = right_call(0, 50, 0);
+    sending c = right_call(0, 50, 0);
     c.scan_len = 172;
     BY_HAND(c, 0, "\x80\x9a\xff\xfe" STAMP "\0\0\0\0\x00\x32\x28\x1e", 0, 0, 172);
     c.scan_len = 173;
@@ -558,15 +451,15 @@ static void try_by_hand(void) {
 
 #if SIZE_MAX > UINT32_MAX
 /* One of the three is lent at `far`, of which only the first bytes are ever looked at; the others are right. */
-static void same_far(const call *c, uint8_t *far, char which, uint32_t reply) {
+static void same_far(const sending *c, uint8_t *far, char which, uint32_t reply) {
     static uint8_t near[2048], right[2048], tables[128];
     memset(near, 0x5a, sizeof near);
     memset(right, 0x5a, sizeof right);
     memcpy(tables, table_bytes, sizeof tables);
-    lj_written theirs = second(c, right);
+    lj_written theirs = second_packet(c, right);
     uint8_t *out = which == 'o' ? far : near;
-    memcpy(far, which == 's' ? scan_bytes + c->scan_at : which == 't' ? table_bytes : near, sizeof near);
-    lj_written ours = called(c, which == 't' ? far : tables, which == 's' ? far : scan_lent + c->scan_at, out);
+    memcpy(far, which == 's' ? c->scan : which == 't' ? table_bytes : near, sizeof near);
+    lj_written ours = called(*c, which == 't' ? far : tables, which == 's' ? far : lent_scan(c), out);
     compared++;
     replies[theirs.reply]++;
     if (ours.reply == theirs.reply && ours.length == theirs.length && theirs.reply == reply &&
@@ -591,7 +484,7 @@ static const char *try_far(void) {
     uint8_t *far = malloc(over_32_bits + 4096);
     if (far == NULL) return "not tried, no such memory";
     for (size_t i = 0; i < COUNT(cases); i++) {
-        call c = right_call(i % 2 ? 64 : 0, cases[i].q, cases[i].tables_len);
+        sending c = right_call(i % 2 ? 64 : 0, cases[i].q, cases[i].tables_len);
         if (cases[i].which == 's') c.scan_len = over_32_bits + cases[i].over;
         if (cases[i].which == 't') c.tables_len = over_32_bits + cases[i].over;
         if (cases[i].which == 'o') c.out_len = over_32_bits + cases[i].over;
@@ -607,7 +500,7 @@ static const char *try_far(void) { return "none here"; }
 /* ---- Cases chosen by chance ---- */
 
 /* A length of scan within `most`, short as a rule, and often at a packet's end or one byte off. */
-static size_t chosen_scan(const call *c, uint32_t most) {
+static size_t chosen_scan(const sending *c, uint32_t most) {
     static const uint32_t bounds[] = {4, 200, 200, 600, 600, 600, 2000, 2000};
     uint32_t length;
     if (below(4) == 0)
@@ -619,9 +512,9 @@ static size_t chosen_scan(const call *c, uint32_t most) {
     return length < 1 ? 1 : length > most ? most : length;
 }
 
-static call chosen_picture(void) {
+static sending chosen_picture(void) {
     static const uint32_t types[] = {0, 1, 64, 65};
-    call c = right_call(types[below(4)], 0, 0);
+    sending c = right_call(types[below(4)], 0, 0);
     unsigned q = below(4);
     c.q = q == 0 ? between(1, 99) : q == 3 ? 255 : between(128, 254);
     c.tables_len = q < 2 ? 0 : 128;
@@ -646,7 +539,7 @@ static uint32_t outside(uint32_t least, uint32_t most) {
     }
 }
 
-static void wrong_parameter(call *c) {
+static void wrong_parameter(sending *c) {
     uint32_t q = outside(1, 99);
     switch (below(5)) {
     case 0:
@@ -660,7 +553,7 @@ static void wrong_parameter(call *c) {
     }
 }
 
-static void wrong_tables(call *c) {
+static void wrong_tables(sending *c) {
     uint8_t *own = table_bytes_with_zero;
     int none = c->q <= 99 || below(2) == 0;
     size_t length = c->q == 255 && below(3) == 0 ? 0 : between(1, 300);
@@ -671,7 +564,7 @@ static void wrong_tables(call *c) {
 }
 
 /* Spoils what the refusals 40 to 44 look at. The set has a bit for each refusal, the lowest for 40. */
-static void wrong_picture(call *c, unsigned set) {
+static void wrong_picture(sending *c, unsigned set) {
     if (set & 1 << 4) {
         c->packet_size = between(192, below(4) ? 300 : 1000);
         uint32_t most = first_room(c) + 63 * later_room(c), more = 65536 - most;
@@ -684,7 +577,7 @@ static void wrong_picture(call *c, unsigned set) {
 }
 
 /* An output length near the packet's, on the side that the set wants. */
-static size_t chosen_output(const call *c, int too_short) {
+static size_t chosen_output(const sending *c, int too_short) {
     packet kept;
     send_frame(c, &kept);
     if (too_short) return below(2) ? kept.length - 1 : below((uint32_t)kept.length);
@@ -692,13 +585,13 @@ static size_t chosen_output(const call *c, int too_short) {
 }
 
 /* Two of three calls are right; the others have one fault, or now and then two. */
-static call chosen_call(void) {
-    call c = chosen_picture();
+static sending chosen_call(void) {
+    sending c = chosen_picture();
     unsigned set = 0;
     if (below(3) == 0) set |= 1u << below(7);
     if (set != 0 && below(4) == 0) set |= 1u << below(7);
     wrong_picture(&c, set);
-    c.scan_at = GUARD + below(SCANS - (uint32_t)c.scan_len + 1);
+    c.scan = scan_bytes + GUARD + below(SCANS - (uint32_t)c.scan_len + 1);
     if (set & 0x1f) {
         c.k = below(2) ? below(70) : any();
         c.out_len = below(2000);
@@ -713,7 +606,7 @@ static call chosen_call(void) {
 
 static void try_by_chance(void) {
     for (unsigned long i = 0; i < BY_CHANCE; i++) {
-        call c = chosen_call();
+        sending c = chosen_call();
         same(&c, (uint8_t)any(), i % 16 == 0 ? HEAP : GUARDS);
     }
 }

@@ -5,6 +5,8 @@
 #include "../include/ljosvark.h"
 #include "lent.h"
 
+#include <inttypes.h>
+
 typedef struct {
     uint8_t before[GUARD];
     lj_receiver receiver;
@@ -15,6 +17,31 @@ _Static_assert(sizeof(lent_receiver) == GUARD + sizeof(lj_receiver) + GUARD, "th
 
 static lent_receiver receiver_lent, receiver_before;
 static lent area_lent, packet_lent;
+
+/* ---- For whoever reports what is wrong ---- */
+
+static inline void print_receiver(const char *whose, const lj_receiver *r) {
+    printf("  %s: source %" PRIu32 ", room %" PRIu32 ", picture %" PRIu32 ", time %" PRIu32 ", type %" PRIu32
+           ", q %" PRIu32 ", %" PRIu32 " by %" PRIu32 ", interval %" PRIu32 ", end %" PRIu32 ", whole %" PRIu32
+           ", kept q %" PRIu32 "\n    %" PRIu32 " fragments (offset, length, marker):",
+           whose, r->source, r->room, r->picture, r->time, r->kind, r->q, r->width, r->height, r->interval, r->end,
+           r->whole, r->kept.q, r->fragment_count);
+    for (uint32_t i = 0; i < 64 && i < r->fragment_count; i++) {
+        lj_fragment f = r->fragments[i];
+        printf(" (%" PRIu32 ", %" PRIu32 ", %" PRIu32 ")", f.offset, f.length, f.marker);
+    }
+    printf("\n");
+}
+
+/* The packet of the last call. */
+static inline void print_packet(void) {
+    printf("  packet of %zu bytes:", packet_lent.length);
+    for (size_t i = 0; i < packet_lent.length && i < 192; i++)
+        printf("%s%02x", i % 4 ? "" : " ", packet_lent.wanted[GUARD + i]);
+    printf("\n");
+}
+
+/* ---- What a call did ---- */
 
 /* Whether the second, which took a packet, holds another picture than the first. */
 static inline int started(const lj_receiver *before, const lj_receiver *after) {
