@@ -7,6 +7,7 @@
 #include "quantiser.h"
 #include "received.h"
 #include "second.h"
+#include "sender.h"
 
 #include <inttypes.h>
 
@@ -452,13 +453,6 @@ static void change_lawfully(call *c) {
 
 /* ---- Receivers that pictures came to ---- */
 
-typedef struct {
-    uint32_t type, q, width, height, interval;
-    uint8_t tables[128];
-    size_t tables_len;
-    uint32_t scan_len, packet_size, time;
-} picture;
-
 static uint8_t scan[65536];
 
 static uint32_t chosen_length(uint32_t room) {
@@ -476,38 +470,29 @@ static void choose_scan(uint32_t length) {
 }
 
 /* A picture that this receiver takes, and sometimes one for which it has kept the tables. */
-static picture chosen_picture(const lj_receiver *r) {
-    picture p = {.type = ONE_OF(types)};
+static sending chosen_picture(const lj_receiver *r) {
+    static uint8_t tables[128];
+    sending p = {.source = r->source, .tables = tables, .scan = scan};
+    p.type = ONE_OF(types);
     p.q = below(3) == 0 ? between(1, 99) : below(2) ? 255 : between(128, 254);
     p.width = between(1, 255);
     p.height = between(1, 255);
     if (p.type >= 64) p.interval = between(1, below(2) ? 65535 : 300);
     if (r->kept.q != 0 && below(2)) p.q = r->kept.q;
-    random_tables(p.tables);
+    random_tables(tables);
     p.tables_len = p.q <= 99 || (p.q == r->kept.q && below(2)) ? 0 : 128;
     p.scan_len = chosen_length(r->room);
     p.packet_size = 6000 < p.scan_len ? between(1200, 1472) : between(192, below(2) ? 260 : 1472);
+    p.start = (uint16_t)any();
     p.time = r->picture ? r->time + between(1, INT32_MAX) : any();
     return p;
 }
 
-typedef struct {
-    uint8_t bytes[1472];
-    size_t length;
-} packet;
-
-static int sent(const picture *p, uint32_t source, uint32_t k, packet *out) {
-    lj_written w = lj_packet(p->type, p->q, p->width, p->height, p->interval, p->tables, p->tables_len, scan, p->scan_len,
-                             p->packet_size, (uint16_t)any(), p->time, source, k, out->bytes, sizeof out->bytes);
-    out->length = w.length;
-    return w.reply == LJ_SUCCESS;
-}
-
 /* The picture's packets in any order, all of them or not, but at least one. */
-static void deliver(call *c, const picture *p, int all) {
+static void deliver(call *c, const sending *p, int all) {
     static packet packets[64];
     uint32_t order[64], count = 0;
-    for (; count < 64 && sent(p, c->receiver.source, count, &packets[count]); count++) order[count] = count;
+    for (; count < 64 && sent(*p, count, &packets[count]); count++) order[count] = count;
     uint32_t missing = all || count < 2 ? 0 : between(1, count - 1);
     if (count == 0) stop(c, "the sender refuses a picture");
     for (uint32_t n = count; n > missing; n--) {
@@ -527,8 +512,8 @@ static call reached(void) {
     call c = {.receiver = lj_open(any(), room).receiver, .area_len = room};
     fill_area();
     for (uint32_t pictures = below(16) ? between(1, 3) : 0; pictures > 0; pictures--) {
-        picture p = chosen_picture(&c.receiver);
-        choose_scan(p.scan_len);
+        sending p = chosen_picture(&c.receiver);
+        choose_scan((uint32_t)p.scan_len);
         deliver(&c, &p, below(3) != 0);
     }
     return c;

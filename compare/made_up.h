@@ -26,8 +26,6 @@ static inline uint32_t some_place(void) {
 
 static inline int within(uint32_t n, uint32_t least, uint32_t most) { return least <= n && n <= most; }
 
-static inline int without_zero(const uint8_t *tables) { return memchr(tables, 0, 128) == NULL; }
-
 /* ---- Pictures ---- */
 
 static inline uint32_t chosen_q(void) {
@@ -46,6 +44,7 @@ static inline sending chosen_picture(uint32_t room) {
     p.tables_len = p.q >= 128 && (p.q == 255 || below(4)) ? 128 : 0;
     p.scan = noise + 2048 + below(65536);
     p.packet_size = below(2) ? between(192, 260) : between(192, 1472);
+    p.start = (uint16_t)any();
     uint32_t most = 40 * (p.packet_size - 24);
     p.scan_len = between(1, room < most ? room : most);
     p.time = below(4) ? any() : UINT32_MAX - below(3);
@@ -114,6 +113,15 @@ static inline lj_receiver lawful_receiver(const sending *p) {
     if (below(64) == 0) r.room = 65536;
     if (below(2)) build_store(&r.kept, p);
     return r;
+}
+
+/* The scan's own bytes where the receiver says that it has them, as far as the area goes. */
+static inline void lay_out(uint8_t *area, size_t length, const lj_receiver *r, const sending *p) {
+    for (uint32_t i = 0; i < 64 && i < r->fragment_count; i++) {
+        lj_fragment f = r->fragments[i];
+        if (length < f.offset || length - f.offset < f.length) return;
+        memcpy(area + f.offset, p->scan + f.offset, f.length);
+    }
 }
 
 /* ---- What is written over a receiver ---- */

@@ -17,7 +17,7 @@ static inline int has_table_header(const packet *p, const sending *s) {
 static inline void vary(packet *p, const sending *s) {
     size_t at = tables_at(s);
     p->bytes[3] = (uint8_t)any();
-    if (s->type >= 64) p->bytes[22] = (uint8_t)any();
+    if (s->type >= 64) p->bytes[22] = p->bytes[23] = (uint8_t)any();
     if (!has_table_header(p, s)) return;
     p->bytes[at] = (uint8_t)any();
     p->bytes[at + 1] = (uint8_t)(any() & 0xfc);
@@ -70,6 +70,11 @@ static inline void spoil_field(packet *p, const sending *s) {
     case 9: spoil_main_header(p); break;
     default: spoil_tables(p, s);
     }
+}
+
+/* Two at once show which of them is asked first. */
+static inline void spoil_fields(packet *p, const sending *s) {
+    for (uint32_t fields = between(1, 2); fields > 0; fields--) spoil_field(p, s);
 }
 
 /* ---- In any packet ---- */

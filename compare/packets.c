@@ -57,8 +57,8 @@ static lj_written called(sending c, const uint8_t *tables, const uint8_t *scan, 
 /* The place in scan_lent, a twin of scan_bytes, that the scan has in scan_bytes. */
 static uint8_t *lent_scan(const sending *c) { return scan_lent + (c->scan - scan_bytes); }
 
-/* Tables between guards like the output's. The scan lies among the other bytes of scan_lent:
- * some scans are longer than a `lent` holds, and copying the long ones for each call would take most of the time. */
+/* Tables between guards like the output's. The scan lies among the other bytes of scan_lent: some scans are longer than a
+ * `lent` holds, and copying the long ones for each call would take most of the time. */
 static lj_written between_guards(const sending *c, uint8_t *out, uint8_t fill) {
     uint8_t *tables = lend_copy(&tables_lent, c->tables, c->tables_len, fill);
     lj_written ours = called(*c, tables, lent_scan(c), out);
@@ -154,8 +154,8 @@ static uint32_t packets_of(const sending *c) {
 /* A right call for packet 0 of a few, to be changed in one place by each trial below. */
 static sending right_call(uint32_t type, uint32_t q, size_t tables_len) {
     return (sending){.type = type, .q = q, .width = 40, .height = 30, .interval = type >= 64 ? 0x1234 : 0,
-                  .tables = table_bytes, .tables_len = tables_len, .scan = scan_bytes + GUARD + 1000, .scan_len = 500,
-                  .packet_size = 192, .start = 0xfffe, .time = 0x01020304, .source = 0xa1b2c3d4, .out_len = 1600};
+                     .tables = table_bytes, .tables_len = tables_len, .scan = scan_bytes + GUARD + 1000, .scan_len = 500,
+                     .packet_size = 192, .start = 0xfffe, .time = 0x01020304, .source = 0xa1b2c3d4, .out_len = 1600};
 }
 
 static void try_packet_sizes(sending c) {
@@ -502,9 +502,9 @@ static const char *try_far(void) { return "none here"; }
 /* A length of scan within `most`, short as a rule, and often at a packet's end or one byte off. */
 static size_t chosen_scan(const sending *c, uint32_t most) {
     static const uint32_t bounds[] = {4, 200, 200, 600, 600, 600, 2000, 2000};
-    uint32_t length;
+    uint32_t length = first_room(c) - 1 + below(3);
     if (below(4) == 0)
-        length = first_room(c) + below(6) * later_room(c) + below(3) - 1;
+        length += below(6) * later_room(c);
     else if (below(64) == 0)
         length = most - below(most / 2);
     else

@@ -3,7 +3,7 @@
 #ifndef QUANTISER_H
 #define QUANTISER_H
 
-#include <stdint.h>
+#include "../include/ljosvark.h"
 
 static const int k1[8][8] = {
     {16, 11, 10, 16, 24, 40, 51, 61},   {12, 12, 14, 19, 26, 58, 60, 55},
@@ -35,6 +35,13 @@ static inline void tables_made(uint32_t q, uint8_t *out) {
     long scale = q <= 50 ? 5000 / (long)q : 200 - 2 * (long)q;
     scaled(k1, scale, out);
     scaled(k2, scale, out + 64);
+}
+
+static inline lj_written second_tables(uint32_t q, uint8_t *out, size_t out_len) {
+    if (q < 1 || 99 < q) return (lj_written){34, 0};
+    if (out_len < 128) return (lj_written){35, 0};
+    tables_made(q, out);
+    return (lj_written){0, 128};
 }
 
 #endif

@@ -70,11 +70,14 @@ static inline const char *area_wrong(void) {
     return all_wanted(&area_lent) ? NULL : "the area was changed outside the packet's place, or beside the area";
 }
 
+static inline int receiver_guards_wanted(void) {
+    return memcmp(receiver_lent.before, receiver_before.before, GUARD) == 0 &&
+           memcmp(receiver_lent.behind, receiver_before.behind, GUARD) == 0;
+}
+
 /* What the last call did that no call may, whatever it is given, or NULL. */
 static inline const char *call_wrong(uint32_t reply) {
-    if (memcmp(receiver_lent.before, receiver_before.before, GUARD) != 0 ||
-        memcmp(receiver_lent.behind, receiver_before.behind, GUARD) != 0)
-        return "a byte beside the receiver was changed";
+    if (!receiver_guards_wanted()) return "a byte beside the receiver was changed";
     if (!all_wanted(&packet_lent)) return "the packet was changed, or a byte beside it";
     if (reply == LJ_HELD || reply == LJ_WHOLE) return area_wrong();
     if (memcmp(&receiver_lent, &receiver_before, sizeof receiver_lent) != 0) return "a refusal changed the receiver";

@@ -3,10 +3,10 @@
 #include "second.h"
 #include "quantiser.h"
 
-#include <assert.h>
 #include <stdbool.h>
 #include <string.h>
 
+/* Document 01's numbers and not the product's header, which is tried too. */
 enum {
     DONE = 0,               /* opened, built, or read without a fault */
     HELD = 0,
@@ -200,7 +200,7 @@ static void list_fragments(const second_receiver *s, lj_fragment *fragments) {
 
 /* ---- The state and its fields ---- */
 
-static_assert(sizeof(lj_receiver) == 12 * 4 + FRAGMENTS_MAX * 12 + TABLES + 4 + TABLES, "fields are compared as bytes");
+_Static_assert(sizeof(lj_receiver) == 12 * 4 + FRAGMENTS_MAX * 12 + TABLES + 4 + TABLES, "fields are compared as bytes");
 
 /* The fields of a well-formed state. */
 static void say_fields(const second_receiver *s, lj_receiver *f) {
@@ -228,9 +228,9 @@ static bool all_zero(const uint8_t *tables) {
 }
 
 static bool header_can_be_read(const second_header *h) {
-    return type_is_known(h->kind) && (q_makes_tables(h->q) || q_brings_tables(h->q))
-        && h->width >= 1 && h->width <= 255 && h->height >= 1 && h->height <= 255
-        && h->interval <= 65535 && type_has_interval(h->kind) == (h->interval != 0);
+    return type_is_known(h->kind) && (q_makes_tables(h->q) || q_brings_tables(h->q)) &&
+        h->width >= 1 && h->width <= 255 && h->height >= 1 && h->height <= 255 &&
+        h->interval <= 65535 && type_has_interval(h->kind) == (h->interval != 0);
 }
 
 static bool kept_is_lawful(const lj_kept *kept) {
@@ -312,16 +312,16 @@ static bool starts_picture(const second_receiver *s, const scan_packet *p) {
 }
 
 static bool same_header(const second_header *a, const second_header *b) {
-    return a->kind == b->kind && a->q == b->q && a->width == b->width && a->height == b->height
-        && a->interval == b->interval;
+    return a->kind == b->kind && a->q == b->q && a->width == b->width && a->height == b->height &&
+        a->interval == b->interval;
 }
 
 /* Whether the packet is a fragment of the map over again. */
 static bool is_repeat(const second_receiver *s, const uint8_t *area, const scan_packet *p) {
     uint32_t end = p->offset + p->length;
-    return s->map[p->offset] == FIRST && end_of_run(s, p->offset + 1, s->top, REST) == end
-        && p->marker == (end == s->end) && memcmp(area + p->offset, p->scan, p->length) == 0
-        && (p->tables == NULL || memcmp(p->tables, s->tables, TABLES) == 0);
+    return s->map[p->offset] == FIRST && end_of_run(s, p->offset + 1, s->top, REST) == end &&
+        p->marker == (end == s->end) && memcmp(area + p->offset, p->scan, p->length) == 0 &&
+        (p->tables == NULL || memcmp(p->tables, s->tables, TABLES) == 0);
 }
 
 /* `gaps` is longer than any scan that a packet carries. */

@@ -34,6 +34,17 @@ typedef struct {
     size_t length;
 } packet;
 
+/* Packet k of the library's sender; 0 where it has none, or the picture is not taken. */
+static inline int sent(sending s, uint32_t k, packet *out) {
+    s.k = k;
+    s.out_len = PACKET_MOST;
+    lj_written w = asked(&s, out->bytes);
+    out->length = w.length;
+    return w.reply == LJ_SUCCESS;
+}
+
+/* ---- The second sender ---- */
+
 /* One field, most significant byte first. */
 static inline void put_field(packet *p, int bytes, uint32_t value) {
     while (bytes-- > 0) p->bytes[p->length++] = (uint8_t)(value >> 8 * bytes);
@@ -114,10 +125,12 @@ static inline int parameters_right(const sending *s) {
     return 1 <= s->width && s->width <= 255 && 1 <= s->height && s->height <= 255;
 }
 
+static inline int without_zero(const uint8_t *tables) { return memchr(tables, 0, 128) == NULL; }
+
 static inline int tables_right(const sending *s) {
     if (s->q <= 99) return s->tables_len == 0;
     if (s->tables_len == 0) return s->q != 255;
-    return s->tables_len == 128 && memchr(s->tables, 0, 128) == NULL;
+    return s->tables_len == 128 && without_zero(s->tables);
 }
 
 static inline lj_written second_packet(const sending *s, uint8_t *out) {

@@ -73,19 +73,6 @@ static lj_answer handed(lj_receiver *r, size_t area_len, const packet *p) {
     return ours;
 }
 
-/* ---- Pictures and their packets ---- */
-
-/* Packet k of the picture; 0 where it has none, or the sender does not take it. */
-static int sent(const sending *p, uint32_t k, packet *out) {
-    sending now = *p;
-    now.start = (uint16_t)any();
-    now.k = k;
-    now.out_len = PACKET_MOST;
-    lj_written w = asked(&now, out->bytes);
-    out->length = w.length;
-    return w.reply == LJ_SUCCESS;
-}
-
 /* ---- Receivers reached by histories ---- */
 
 typedef struct {
@@ -123,7 +110,7 @@ static void deliver_one(lj_receiver *r, const sending *p, const packet *now, int
 static void deliver(lj_receiver *r, const sending *p) {
     static packet packets[64];
     uint32_t order[64], count = 0;
-    for (; count < 64 && sent(p, count, &packets[count]); count++) order[count] = count;
+    for (; count < 64 && sent(*p, count, &packets[count]); count++) order[count] = count;
     uint32_t missing = below(3) ? below(count + 1) : 0;
     for (uint32_t n = count; n > missing; n--) {
         uint32_t i = below(n), k = order[i];
@@ -174,24 +161,15 @@ static void chosen_packet(const lj_receiver *r, const sending *given, packet *ou
     if (!parameters_right(&p) || !tables_right(&p)) p = chosen_picture(4096);
     p.source = r->source - (below(32) == 0);
     p.time = chosen_time(r->time);
-    if (below(4) || !sent(given, below(8), out)) cut(out, &p, f, (uint16_t)any());
+    if (below(4) || !sent(*given, below(8), out)) cut(out, &p, f, (uint16_t)any());
     else p = *given;
-    if (below(8) == 0) spoil_field(out, &p);
+    if (below(3) == 0) vary(out, &p);
+    if (below(6) == 0) spoil_fields(out, &p);
     if (below(8) == 0) dress(out);
     if (below(8) == 0) damage(out);
 }
 
 /* ---- Each state ---- */
-
-/* Noise, and the scan's own bytes where the receiver says that it has them. */
-static void lay_out(const lj_receiver *r, const sending *p, size_t length) {
-    clear_area(length);
-    for (uint32_t i = 0; i < 64 && i < r->fragment_count; i++) {
-        lj_fragment f = r->fragments[i];
-        if (length < f.offset || length - f.offset < f.length) return;
-        memcpy(area + f.offset, p->scan + f.offset, f.length);
-    }
-}
 
 /* As long as the room, or now and then not; any length where the room is none. */
 static size_t chosen_area(const lj_receiver *r) {
@@ -207,7 +185,8 @@ static void try_state(enum kind kind, const reached *e) {
     kinds[kind].states++;
     states++;
     size_t length = chosen_area(&r);
-    lay_out(&r, &e->picture, length);
+    clear_area(length);
+    lay_out(area, length, &r, &e->picture);
     lj_answer a = handed(&r, length, NULL);
     if (kind == BUILT && !second.well_formed) stop("both refuse what is built from lawful fields", a, a);
     kinds[kind].well_formed += second.well_formed;

@@ -1,29 +1,15 @@
-/* lj_make_tables against a second table making, the one in quantiser.h. */
-#include "../include/ljosvark.h"
+/* lj_make_tables against the second table making of quantiser.h. */
 #include "lent.h"
 #include "quantiser.h"
 
 _Static_assert(LJ_SUCCESS == 0 && LJ_Q_NOT_MADE == 34 && LJ_TABLES_OUTPUT == 35, "the header's numbers are document 01's");
-
-static lj_written second(uint32_t q, uint8_t *out, size_t out_len) {
-    lj_written answer = {0, 0};
-    if (q < 1 || 99 < q) {
-        answer.reply = 34;
-    } else if (out_len < 128) {
-        answer.reply = 35;
-    } else {
-        tables_made(q, out);
-        answer.length = 128;
-    }
-    return answer;
-}
 
 static lent output;
 static unsigned long compared;
 
 static int same(uint32_t q, size_t out_len, uint8_t fill, int null) {
     uint8_t *out = lend(&output, out_len, fill);
-    lj_written theirs = second(q, wanted(&output), out_len);
+    lj_written theirs = second_tables(q, wanted(&output), out_len);
     lj_written ours = lj_make_tables(q, null ? NULL : out, out_len);
     compared++;
     if (ours.reply == theirs.reply && ours.length == theirs.length && all_wanted(&output)) return 1;
