@@ -351,7 +351,7 @@ static void send_picture(uint32_t which) {
     if (below(8) == 0) ask_wrongly(*p);
 }
 
-/* How long the next of so many pieces is, of a scan of which so much is left: a fair share of that, or anything around it. */
+/* How long the next of so many pieces is, where so much of the scan is left: a fair share, or anything around it. */
 static uint32_t piece_length(uint32_t left, uint32_t pieces, int fair) {
     uint32_t share = left / pieces ? left / pieces : 1, length = fair ? share : between(1, 2 * share);
     if (SCAN_MOST < length) length = SCAN_MOST;
