@@ -1,14 +1,12 @@
 -- What the builder makes of a whole picture. Assumes nothing.
 use Prim.Native.Nat.{ℕ, _≤_}
 use mathlib.Core.List.{List, _++_, append-assoc}
-use mathlib.Core.Path.{_≡_, _∙_}
-use native.Mathlib.Omega.{arith}
+use mathlib.Core.Path.{_≡_, refl, _∙_}
 use borrow.Author.Tests.{le-ltb}
 use lib.ListN.{length, take, drop}
 use Rattle.head.specs.Head.{head}
-use Rattle.laws.specs.Each.{Each}
 use Rattle.laws.specs.Truth.{same}
-use Rattle.replies.specs.Checks.{Numbered, judged, start, passes, none-left}
+use Rattle.replies.specs.Checks.{judged, start, passes, none-left}
 use Rattle.replies.specs.Output.{succeeded, success-checked}
 use Rattle.replies.specs.Reply
 use Rattle.replies.specs.declared.Judged.the-variants.{Passed}
@@ -30,14 +28,10 @@ module _ (r : Receiver) (area : List ℕ) {before after : List ℕ} {w : Written
         let t = le-ltb (length before) (length (fileOf r area)) fits in
         (rw (passed, t) at (builds .answer), rw (passed, t) at (builds .output) ∙ rw (append-assoc (head (frameOf r) (r .tables)) (scanOf r area) (closing (scanOf r area))))
 
-  -- no refusal has the number of success
-  numbered : Each (Numbered (λ (n : ℕ). n ≡ Reply.success → ⊥)) (checks r area)
-  numbered = (λ e. omega arith, (λ e. omega arith, (λ e. omega arith, tt)))
-
   -- And success is answered for a whole picture alone, whose file then stands in front.
   module _ (success : w .reply ≡ Reply.success) where
     pub success-built : Buildable r area × (w .length ≡ length (fileOf r area)) × (take (w .length) after ≡ fileOf r area)
     unfolding building
     success-built =
-        let t = success-checked (checks r area) (fileOf r area) builds success (λ e. omega arith) numbered in
+        let t = success-checked (checks r area) (fileOf r area) builds refl refl success in
         (buildable r area (t .0), t .1, t .2)

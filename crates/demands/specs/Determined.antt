@@ -1,13 +1,10 @@
 -- Any two outcomes of a public function that satisfy its contract, at the same inputs, are equal. Assumes nothing.
 use Prim.Native.Nat.{ℕ}
-use mathlib.Core.Bool.{Bool}
 use mathlib.Core.List.{List}
 use mathlib.Core.Path.{_≡_, sym, ap, _∙_}
 use Rattle.builder.specs.Building.{Builds}
 use Rattle.fragments.specs.Array.{Surveys, Places, PutsIn, HasNone, TellsClear}
 use Rattle.fragments.specs.declared.Fragment.{Fragment}
-use Rattle.fragments.specs.declared.Placed.{Placed}
-use Rattle.fragments.specs.declared.Surveyed.{Surveyed}
 use Rattle.head.specs.Head.{TellsHeadLength, PutsHead}
 use Rattle.head.specs.declared.Frame.{Frame}
 use Rattle.kept.specs.Kept.{IsNone, TellsHas, Finds, Keeps, TellsWell, TellsBlank}
@@ -16,9 +13,7 @@ use Rattle.receiver.specs.Step.{Receives}
 use Rattle.receiver.specs.declared.Received.{Received}
 use Rattle.records.specs.Framing.{TellsRecordLength}
 use Rattle.records.specs.Taking.{Takes}
-use Rattle.records.specs.declared.Taken.{Taken}
-use Rattle.replies.specs.Output.{refused, succeeded, writes-determined}
-use Rattle.replies.specs.declared.Written.{Written}
+use Rattle.replies.specs.Output.{Decision, Writes, IsRefusal, IsSuccess, writes-determined}
 use Rattle.sender.specs.Picture.{Picture}
 use Rattle.sender.specs.Sending.{Sends}
 use Rattle.sender.specs.declared.Stamp.{Stamp}
@@ -26,8 +21,6 @@ use Rattle.slices.specs.Slices.{GivesPart, PutsAt, TellsSame}
 use Rattle.state.specs.Opening.{Opens}
 use Rattle.state.specs.WellFormed.{Inspects, TellsWhole}
 use Rattle.state.specs.declared.Answer.{Answer}
-use Rattle.state.specs.declared.Inspected.{Inspected}
-use Rattle.state.specs.declared.Opened.{Opened}
 use Rattle.state.specs.declared.Receiver.{Receiver}
 use Rattle.tables.specs.MakeTables.{MakesTables}
 use Rattle.wire.specs.Kind.{TellsRestarts}
@@ -37,131 +30,141 @@ use Rattle.wire.specs.TableSource.{TellsSource}
 use Rattle.wire.specs.Tables.{TellsFull}
 use Rattle.wire.specs.declared.Header.{Header}
 use Rattle.wire.specs.declared.Packet.{Packet}
-use Rattle.wire.specs.declared.Reading.{Reading}
-use Rattle.wire.specs.declared.Restarts.{Restarts}
-use Rattle.wire.specs.declared.TableSource.{TableSource}
 
--- what equals one definition is one
-only : {A : Type 0} {x y d : A} → x ≡ d → y ≡ d → x ≡ y
-only a b = a ∙ sym b
+-- Any two outcomes that satisfy a contract are equal: outcomes of one part, of two, and of three.
+abbrev pub Determines : {A : Type 0} → (A → Type 0) → Type 0
+Determines {A} Contract = (x x′ : A) → Contract x → Contract x′ → x ≡ x′
+
+abbrev pub DeterminesBoth : {A B : Type 0} → (A → B → Type 0) → Type 0
+DeterminesBoth {A} {B} Contract = (x x′ : A) (y y′ : B) → Contract x y → Contract x′ y′ → (x ≡ x′) × (y ≡ y′)
+
+abbrev pub DeterminesAll : {A B C : Type 0} → (A → B → C → Type 0) → Type 0
+DeterminesAll {A} {B} {C} Contract = (x x′ : A) (y y′ : B) (z z′ : C) → Contract x y z → Contract x′ y′ z′ → (x ≡ x′) × (y ≡ y′) × (z ≡ z′)
+
+-- what equals one definition is one, and what is written so
+only : {A : Type 0} {d : A} → Determines (λ (x : A). x ≡ d)
+only x x′ a b = a ∙ sym b
+
+written : {short : ℕ} {d : Decision} {before : List ℕ} → DeterminesBoth (Writes short d before)
+written w w′ after after′ a b = writes-determined a b
 
 -- `replies::Written::refusal` and `replies::Written::success`
-pub refusal : (n : ℕ) (w w′ : Written) → w ≡ refused n → w′ ≡ refused n → w ≡ w′
-refusal n w w′ a b = only a b
+pub refusal : (n : ℕ) → Determines (IsRefusal n)
+refusal n = only
 
-pub success : (n : ℕ) (w w′ : Written) → w ≡ succeeded n → w′ ≡ succeeded n → w ≡ w′
-success n w w′ a b = only a b
+pub success : (n : ℕ) → Determines (IsSuccess n)
+success n = only
 
--- `tables::make_tables`, and `lj_make_tables`, which has the same contract
-pub make-tables : (q : ℕ) (before : List ℕ) (w w′ : Written) (after after′ : List ℕ) → MakesTables q before w after → MakesTables q before w′ after′ → (w ≡ w′) × (after ≡ after′)
-make-tables q before w w′ after after′ a b = writes-determined a b
+-- `tables::make_tables`, and `ljosvark::lj_make_tables`, which has the same contract: the answer and the output
+pub make-tables : (q : ℕ) (before : List ℕ) → DeterminesBoth (MakesTables q before)
+make-tables q before = written
 
--- `wire::read`; `wire::scan` and `wire::tables`, by the bytes that they hand out; and what `wire` tells of a type, a Q, header fields
--- and tables
-pub read : (source : ℕ) (packet : List ℕ) (r r′ : Reading) → Reads source packet r → Reads source packet r′ → r ≡ r′
-read source packet r r′ a b = only a b
+-- `wire::read`; `wire::scan` and `wire::tables`, by the bytes that they hand out; and what `wire::restarts_of`, `wire::table_source`,
+-- `wire::is_lawful` and `wire::are_full` tell of a type, a Q, header fields and tables
+pub read : (source : ℕ) (packet : List ℕ) → Determines (Reads source packet)
+read source packet = only
 
-pub scan : (packet : List ℕ) (said : Packet) (l l′ : List ℕ) → GivesScan packet said l → GivesScan packet said l′ → l ≡ l′
-scan packet said l l′ a b = only a b
+pub scan : (packet : List ℕ) (said : Packet) → Determines (GivesScan packet said)
+scan packet said = only
 
-pub tables : (packet : List ℕ) (said : Packet) (l l′ : List ℕ) → GivesTables packet said l → GivesTables packet said l′ → l ≡ l′
-tables packet said l l′ a b = only a b
+pub tables : (packet : List ℕ) (said : Packet) → Determines (GivesTables packet said)
+tables packet said = only
 
-pub restarts-of : (kind : ℕ) (r r′ : Restarts) → TellsRestarts kind r → TellsRestarts kind r′ → r ≡ r′
-restarts-of kind r r′ a b = only a b
+pub restarts-of : (kind : ℕ) → Determines (TellsRestarts kind)
+restarts-of kind = only
 
-pub table-source : (q : ℕ) (s s′ : TableSource) → TellsSource q s → TellsSource q s′ → s ≡ s′
-table-source q s s′ a b = only a b
+pub table-source : (q : ℕ) → Determines (TellsSource q)
+table-source q = only
 
-pub is-lawful : (header : Header) (b b′ : Bool) → TellsLawful header b → TellsLawful header b′ → b ≡ b′
-is-lawful header b b′ x y = only x y
+pub is-lawful : (header : Header) → Determines (TellsLawful header)
+is-lawful header = only
 
-pub are-full : (tables : List ℕ) (b b′ : Bool) → TellsFull tables b → TellsFull tables b′ → b ≡ b′
-are-full tables b b′ x y = only x y
+pub are-full : (tables : List ℕ) → Determines (TellsFull tables)
+are-full tables = only
 
 -- `slices::part`, by the bytes that it hands out, `slices::put` and `slices::are_same`
-pub part : (s : List ℕ) (at n : ℕ) (l l′ : List ℕ) → GivesPart s at n l → GivesPart s at n l′ → l ≡ l′
-part s at n l l′ a b = only a b
+pub part : (s : List ℕ) (at n : ℕ) → Determines (GivesPart s at n)
+part s at n = only
 
-pub put : (before : List ℕ) (at : ℕ) (bytes after after′ : List ℕ) → PutsAt before at bytes after → PutsAt before at bytes after′ → after ≡ after′
-put before at bytes after after′ a b = only a b
+pub put : (before : List ℕ) (at : ℕ) (bytes : List ℕ) → Determines (PutsAt before at bytes)
+put before at bytes = only
 
-pub are-same : (a b : List ℕ) (t t′ : Bool) → TellsSame a b t → TellsSame a b t′ → t ≡ t′
-are-same a b t t′ x y = only x y
+pub are-same : (a b : List ℕ) → Determines (TellsSame a b)
+are-same a b = only
 
--- `sender::packet`, and `lj_packet`, which has the same contract
-pub packet : (p : Picture) (size : ℕ) (s : Stamp) (k : ℕ) (before : List ℕ) (w w′ : Written) (after after′ : List ℕ) → Sends p size s k before w after → Sends p size s k before w′ after′ → (w ≡ w′) × (after ≡ after′)
-packet p size s k before w w′ after after′ a b = writes-determined a b
+-- `sender::packet`, and `ljosvark::lj_packet`, which has the same contract: the answer and the output
+pub packet : (p : Picture) (size : ℕ) (s : Stamp) (k : ℕ) (before : List ℕ) → DeterminesBoth (Sends p size s k before)
+packet p size s k before = written
 
--- `fragments::survey`, `fragments::place`, `fragments::insert`, `fragments::none` and `fragments::are_clear`
-pub no-fragments : (a a′ : List Fragment) → HasNone a → HasNone a′ → a ≡ a′
-no-fragments a a′ x y = only x y
+-- `fragments::none`, `fragments::survey`, `fragments::place`, `fragments::insert` and `fragments::are_clear`
+pub no-fragments : Determines HasNone
+no-fragments = only
 
-pub survey : (a : List Fragment) (count : ℕ) (r r′ : Surveyed) → Surveys a count r → Surveys a count r′ → r ≡ r′
-survey a count r r′ x y = only x y
+pub survey : (a : List Fragment) (count : ℕ) → Determines (Surveys a count)
+survey a count = only
 
-pub place : (a : List Fragment) (count : ℕ) (f : Fragment) (p p′ : Placed) → Places a count f p → Places a count f p′ → p ≡ p′
-place a count f p p′ x y = only x y
+pub place : (a : List Fragment) (count : ℕ) (f : Fragment) → Determines (Places a count f)
+place a count f = only
 
-pub insert : (a : List Fragment) (count at : ℕ) (f : Fragment) (l l′ : List Fragment) → PutsIn a count at f l → PutsIn a count at f l′ → l ≡ l′
-insert a count at f l l′ x y = only x y
+pub insert : (a : List Fragment) (count at : ℕ) (f : Fragment) → Determines (PutsIn a count at f)
+insert a count at f = only
 
-pub are-clear : (a : List Fragment) (count : ℕ) (b b′ : Bool) → TellsClear a count b → TellsClear a count b′ → b ≡ b′
-are-clear a count b b′ x y = only x y
+pub are-clear : (a : List Fragment) (count : ℕ) → Determines (TellsClear a count)
+are-clear a count = only
 
 -- the store: `kept::none`, `kept::has`, `kept::find`, `kept::keep`, `kept::well_kept` and `kept::is_blank`
-pub none : (k k′ : Kept) → IsNone k → IsNone k′ → k ≡ k′
-none k k′ x y = only x y
+pub none : Determines IsNone
+none = only
 
-pub has : (k : Kept) (q : ℕ) (b b′ : Bool) → TellsHas k q b → TellsHas k q b′ → b ≡ b′
-has k q b b′ x y = only x y
+pub has : (k : Kept) (q : ℕ) → Determines (TellsHas k q)
+has k q = only
 
-pub find : (k : Kept) (q : ℕ) (l l′ : List ℕ) → Finds k q l → Finds k q l′ → l ≡ l′
-find k q l l′ x y = only x y
+pub find : (k : Kept) (q : ℕ) → Determines (Finds k q)
+find k q = only
 
-pub keep : (k : Kept) (q : ℕ) (tables : List ℕ) (r r′ : Kept) → Keeps k q tables r → Keeps k q tables r′ → r ≡ r′
-keep k q tables r r′ x y = only x y
+pub keep : (k : Kept) (q : ℕ) (tables : List ℕ) → Determines (Keeps k q tables)
+keep k q tables = only
 
-pub well-kept : (k : Kept) (b b′ : Bool) → TellsWell k b → TellsWell k b′ → b ≡ b′
-well-kept k b b′ x y = only x y
+pub well-kept : (k : Kept) → Determines (TellsWell k)
+well-kept k = only
 
-pub is-blank : (tables : List ℕ) (b b′ : Bool) → TellsBlank tables b → TellsBlank tables b′ → b ≡ b′
-is-blank tables b b′ x y = only x y
+pub is-blank : (tables : List ℕ) → Determines (TellsBlank tables)
+is-blank tables = only
 
--- `state::open`, and `lj_open`, which has the same contract; `state::inspect` and `state::whole_flag`
-pub opens : (source room : ℕ) (o o′ : Opened) → Opens source room o → Opens source room o′ → o ≡ o′
-opens source room o o′ x y = only x y
+-- `state::open`, and `ljosvark::lj_open`, which has the same contract; `state::inspect` and `state::whole_flag`
+pub opens : (source room : ℕ) → Determines (Opens source room)
+opens source room = only
 
-pub inspect : (r : Receiver) (i i′ : Inspected) → Inspects r i → Inspects r i′ → i ≡ i′
-inspect r i i′ x y = only x y
+pub inspect : (r : Receiver) → Determines (Inspects r)
+inspect r = only
 
-pub whole-flag : (end bytes w w′ : ℕ) → TellsWhole end bytes w → TellsWhole end bytes w′ → w ≡ w′
-whole-flag end bytes w w′ x y = only x y
+pub whole-flag : (end bytes : ℕ) → Determines (TellsWhole end bytes)
+whole-flag end bytes = only
 
--- `receiver::receive`: the answer, the next receiver and the area
-pub receive : (r : Receiver) (area packet : List ℕ) (d d′ : Received) (after after′ : List ℕ) → Receives r area packet d after → Receives r area packet d′ after′ → (d ≡ d′) × (after ≡ after′)
-receive r area packet d d′ after after′ a b = (only (a .answer) (b .answer), only (a .lent) (b .lent))
+-- `receiver::receive`: the answer with the next receiver, and the area
+pub receive : (r : Receiver) (area packet : List ℕ) → DeterminesBoth (Receives r area packet)
+receive r area packet d d′ after after′ a b = (only d d′ (a .answer) (b .answer), only after after′ (a .lent) (b .lent))
 
--- `lj_receive`: the same, with the receiver that is left behind the reference
-pub receive-in-place : (r : Receiver) (area packet : List ℕ) (x x′ : Answer) (next next′ : Receiver) (after after′ : List ℕ) → Receives r area packet (record { answer = x; receiver = next }) after → Receives r area packet (record { answer = x′; receiver = next′ }) after′ → (x ≡ x′) × (next ≡ next′) × (after ≡ after′)
+-- `ljosvark::lj_receive`: the answer, the receiver that is left behind the reference, and the area
+pub receive-in-place : (r : Receiver) (area packet : List ℕ) → DeterminesAll (λ (answer : Answer) (next : Receiver) (after : List ℕ). Receives r area packet (record { answer = answer; receiver = next }) after)
 receive-in-place r area packet x x′ next next′ after after′ a b =
-    let d = only (a .answer) (b .answer) in
-    (ap (λ (c : Received). c .answer) d, ap (λ (c : Received). c .receiver) d, only (a .lent) (b .lent))
+    let same = receive r area packet (record { answer = x; receiver = next }) (record { answer = x′; receiver = next′ }) after after′ a b in
+    (ap (λ (d : Received). d .answer) (same .0), ap (λ (d : Received). d .receiver) (same .0), same .1)
 
 -- `head::length` and `head::put`
-pub head-length : (interval n n′ : ℕ) → TellsHeadLength interval n → TellsHeadLength interval n′ → n ≡ n′
-head-length interval n n′ x y = only x y
+pub head-length : (interval : ℕ) → Determines (TellsHeadLength interval)
+head-length interval = only
 
-pub put-head : (f : Frame) (tables before after after′ : List ℕ) → PutsHead f tables before after → PutsHead f tables before after′ → after ≡ after′
-put-head f tables before after after′ x y = only x y
+pub put-head : (f : Frame) (tables before : List ℕ) → Determines (PutsHead f tables before)
+put-head f tables before = only
 
--- `builder::build`, and `lj_build`, which has the same contract: the answer and the output
-pub build : (r : Receiver) (area before : List ℕ) (w w′ : Written) (after after′ : List ℕ) → Builds r area before w after → Builds r area before w′ after′ → (w ≡ w′) × (after ≡ after′)
-build r area before w w′ after after′ a b = writes-determined a b
+-- `builder::build`, and `ljosvark::lj_build`, which has the same contract: the answer and the output
+pub build : (r : Receiver) (area before : List ℕ) → DeterminesBoth (Builds r area before)
+build r area before = written
 
--- `records::length`, and `records::take`: what came, the next receiver and the area
-pub record-length : (bytes : List ℕ) (n n′ : ℕ) → TellsRecordLength bytes n → TellsRecordLength bytes n′ → n ≡ n′
-record-length bytes n n′ x y = only x y
+-- `records::length`, and `records::take`: what came with the next receiver, and the area
+pub record-length : (bytes : List ℕ) → Determines (TellsRecordLength bytes)
+record-length bytes = only
 
-pub take-record : (r : Receiver) (area bytes : List ℕ) (t t′ : Taken) (after after′ : List ℕ) → Takes r area bytes t after → Takes r area bytes t′ after′ → (t ≡ t′) × (after ≡ after′)
-take-record r area bytes t t′ after after′ a b = (only (a .taken) (b .taken), only (a .lent) (b .lent))
+pub take-record : (r : Receiver) (area bytes : List ℕ) → DeterminesBoth (Takes r area bytes)
+take-record r area bytes t t′ after after′ a b = (only t t′ (a .taken) (b .taken), only after after′ (a .lent) (b .lent))

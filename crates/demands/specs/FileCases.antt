@@ -32,7 +32,6 @@ pub record FileCases : Type 0 where
   pub type-1 : sampling 1 0 ≡ 0x22 ∷ []
   pub type-64 : sampling 64 4 ≡ 0x21 ∷ []
   pub type-65 : sampling 65 4 ≡ 0x22 ∷ []
-  pub after-packet-3 : length (transcriptWith (0xAA ∷ 0xBB ∷ 0xCC ∷ 0xDD ∷ [])) ≡ 605 + 4 + 2
   pub closed-already : length (transcriptWith (0xAA ∷ 0xBB ∷ 0xFF ∷ 0xD9 ∷ [])) ≡ 605 + 4
   pub one-byte : body (0xD9 ∷ []) ≡ 0xD9 ∷ 0xFF ∷ 0xD9 ∷ []
 
@@ -45,7 +44,6 @@ file-cases = record {
   type-1 = refl;
   type-64 = refl;
   type-65 = refl;
-  after-packet-3 = refl;
   closed-already = refl;
   one-byte = refl;
 }

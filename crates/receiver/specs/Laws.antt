@@ -1,19 +1,20 @@
 -- What holds of every step. Assumes nothing.
 use Prim.Native.Nat.{ℕ, _≤_, _<_}
-use mathlib.Core.Bool.{Bool, true, false}
+use mathlib.Core.Bool.{Bool, true, false, not}
 use mathlib.Core.List.{List, [], _∷_}
-use mathlib.Core.Path.{_≡_, refl, sym, ap, _∙_}
+use mathlib.Core.Path.{_≡_, refl, ap, _∙_}
 use native.Mathlib.Omega.{arith}
-use borrow.Author.Tests.{eqb-true, eq-eqb, ne-eqb}
-use lib.Dec.{eqb}
+use borrow.Author.Tests.{leb-true, eqb-true, eqb-false, eq-eqb, ne-eqb, not-true}
+use lib.Dec.{eqb, leb}
 use lib.ListN.{length}
 use Rattle.fragments.specs.Array.{held-padded, unused-padded}
 use Rattle.fragments.specs.Clash.{isMarked, clashes, in-place-insert, start-insert}
 use Rattle.fragments.specs.Held.{total, endOf, whole, Whole, is-whole, is-reached}
 use Rattle.fragments.specs.Insertion.{insert, length-insert}
 use Rattle.laws.specs.Put.{put, length-put}
-use Rattle.laws.specs.Truth.{split, and-false}
-use Rattle.replies.specs.Checks.{judged, _when_, refused-by}
+use Rattle.laws.specs.Truth.{split, never-both, and-false}
+use Rattle.laws.specs.Within.{within, is-under, is-within}
+use Rattle.replies.specs.Checks.{judged, _when_, numbered, refused-by}
 use Rattle.replies.specs.Reply
 use Rattle.replies.specs.declared.Judged.the-variants.{Passed, Refused}
 use Rattle.replies.specs.declared.Judged.{Judged}
@@ -23,7 +24,7 @@ use Rattle.state.specs.declared.Receiver.{Receiver}
 use Rattle.wire.specs.Field.{Bytes}
 use Rattle.wire.specs.Lawful.{isLawful, is-lawful}
 use Rattle.wire.specs.Readable.{Readable, read-packet, read-refused, scan-long}
-use Rattle.wire.specs.Reading.{reading, scanIn}
+use Rattle.wire.specs.Reading.{reading, scanIn, checks as readChecks}
 use Rattle.wire.specs.declared.Header.{Header}
 use Rattle.wire.specs.declared.Packet.{Packet}
 use Rattle.wire.specs.declared.Reading.the-variants as Answer
@@ -34,7 +35,13 @@ use Rattle.receiver.specs.Step.Decision.{leave, accept}
 use Rattle.receiver.specs.Step.{decision, judgedRead, taken, held, answering, tookIn, received, areaAfter}
 use Rattle.receiver.specs.Time.{not-behind}
 use Rattle.receiver.specs.Verdict.{fragmentOf, isUnlike, isBeyond, checks, verdict, Accepted, accepted}
-use Rattle.receiver.specs.declared.Received.{Received}
+
+-- Why a call leaves all as it is, and with which reply: 9, 8, the reader's, or the verdict on what was read.
+pub data Left (r : Receiver) (area p : List ℕ) (n : ℕ) : Type 0 where
+  ill-formed : wellFormed r ≡ false → n ≡ Reply.not-well-formed → Left r area p n
+  other-area : (length area ≡ r .room → ⊥) → n ≡ Reply.area-not-room → Left r area p n
+  unread : reading (r .source) p ≡ Answer.Refused n → Left r area p n
+  ruled-out : (s : Packet) → verdict r area p s ≡ Refused n → Left r area p n
 
 -- A packet that is taken, and what is known of it.
 pub record Taken (r : Receiver) (area p : List ℕ) : Type 0 where
@@ -46,14 +53,14 @@ pub record Taken (r : Receiver) (area p : List ℕ) : Type 0 where
   pub decided : decision r area p ≡ accept packet
 
 module _ (r : Receiver) (area p : List ℕ) where
-  -- a call leaves all as it is, with a reply from 2 on, or takes its packet
-  pub by-decision : {P : Type 0} → ((n : ℕ) → 2 ≤ n → decision r area p ≡ leave n → P) → (Taken r area p → P) → P
+  -- a call leaves all as it is, or takes its packet
+  pub by-decision : {P : Type 0} → ((n : ℕ) → Left r area p n → decision r area p ≡ leave n → P) → (Taken r area p → P) → P
   unfolding decision
   by-decision {P} leaves takes = split (wellFormed r)
       (λ w. split (eqb (length area) (r .room))
       (λ l. by-reading w l (reading (r .source) p) refl)
-      (λ l. leaves Reply.area-not-room (omega arith) (rw (w, l))))
-      (λ w. leaves Reply.not-well-formed (omega arith) (rw w))
+      (λ l. leaves Reply.area-not-room (other-area (eqb-false (length area) (r .room) l) refl) (rw (w, l))))
+      (λ w. leaves Reply.not-well-formed (ill-formed w refl) (rw w))
     where
       by-verdict : wellFormed r ≡ true → eqb (length area) (r .room) ≡ true → (s : Packet) → reading (r .source) p ≡ Answer.Said s → (j : Judged) → verdict r area p s ≡ j → P
       by-verdict w l s e Passed v = takes (record {
@@ -64,11 +71,21 @@ module _ (r : Receiver) (area p : List ℕ) where
         accepted = accepted (pictureFor r s) area p s v;
         decided = rw (w, l, e, v);
       })
-      by-verdict w l s e (Refused n) v = leaves n (refused-by (λ (n : ℕ). 2 ≤ n) (checks (pictureFor r s) area p s) (omega arith) v) (rw (w, l, e, v))
+      by-verdict w l s e (Refused n) v = leaves n (ruled-out s v) (rw (w, l, e, v))
 
       by-reading : wellFormed r ≡ true → eqb (length area) (r .room) ≡ true → (a : Reading) → reading (r .source) p ≡ a → P
-      by-reading w l (Answer.Refused n) e = leaves n (omega (arith, read-refused (r .source) p e)) (rw (w, l, e))
+      by-reading w l (Answer.Refused n) e = leaves n (unread e) (rw (w, l, e))
       by-reading w l (Answer.Said s) e = by-verdict w l s e (verdict r area p s) refl
+
+  -- a test that 9 and 8 pass where they are given, and each number of the reader's and of the verdict's, is passed by the reply
+  pub left-by : (test : ℕ → Bool) {n : ℕ} → (wellFormed r ≡ false → test Reply.not-well-formed ≡ true) → ((length area ≡ r .room → ⊥) → test Reply.area-not-room ≡ true) → numbered test (readChecks (r .source) p) ≡ true → ((s : Packet) → numbered test (checks (pictureFor r s) area p s) ≡ true) → Left r area p n → test n ≡ true
+  left-by test formed room read ruled (ill-formed w e) = rw e (formed w)
+  left-by test formed room read ruled (other-area l e) = rw e (room l)
+  left-by test formed room read ruled (unread e) = read-refused (r .source) p test read e
+  left-by test formed room read ruled (ruled-out s v) = refused-by test (checks (pictureFor r s) area p s) (ruled s) v
+
+  left-number : {n : ℕ} → Left r area p n → 2 ≤ n
+  left-number {n} l = leb-true 2 n (left-by (leb 2) (λ w. refl) (λ o. refl) refl (λ s. refl) l)
 
   -- what is decided, one check after the other
   pub other-room : wellFormed r ≡ true → (length area ≡ r .room → ⊥) → decision r area p ≡ leave Reply.area-not-room
@@ -87,11 +104,6 @@ module _ (r : Receiver) (area p : List ℕ) where
   unfolding received areaAfter
   when-accepted d = rw d (refl, refl)
 
-  pub leave-number : {n : ℕ} → decision r area p ≡ leave n → 2 ≤ n
-  leave-number {n} e = by-decision
-      (λ m two d. let same : m ≡ n = cc in omega arith)
-      (λ t. absurd (let z : _≡_ {A = ℕ} 0 1 = cc in omega arith))
-
   -- the reply to a packet that is taken tells whether the picture is whole with it
   pub reply-taken : Taken r area p → received r area p .answer .reply ≡ flag (whole (heldFragments (received r area p .receiver)))
   unfolding received
@@ -107,17 +119,12 @@ module _ (r : Receiver) (area p : List ℕ) where
 
   pub taken-when : received r area p .answer .reply < 2 → Taken r area p
   unfolding received
-  taken-when h = by-decision (λ n two d. absurd (omega (arith, rw d at h))) (λ t. t)
-
-  -- a refusal, and again, hand back the receiver and the area
-  pub handed-back : 2 ≤ received r area p .answer .reply → (received r area p .receiver ≡ r) × (areaAfter r area p ≡ area)
-  unfolding received areaAfter
-  handed-back h = by-decision (λ n two d. rw d (refl, refl)) (λ t. absurd (omega (arith, reply-small t)))
+  taken-when h = by-decision (λ n l d. absurd (omega (arith, left-number l, rw d at h))) (λ t. t)
 
   -- the reply carries the sum of the held lengths afterwards, and 0 where the receiver is not well formed
   pub held-sum : wellFormed r ≡ true → received r area p .answer .held ≡ total (heldFragments (received r area p .receiver))
   unfolding received held
-  held-sum w = by-decision (λ n two d. rw (d, w)) (λ t. rw (t .decided))
+  held-sum w = by-decision (λ n l d. rw (d, w)) (λ t. rw (t .decided))
 
   pub answers-9 : wellFormed r ≡ false → received r area p ≡ answering Reply.not-well-formed 0 r
   unfolding received decision held
@@ -185,7 +192,7 @@ module _ (r : Receiver) (area p : List ℕ) where
   pub keeps-well-formed : Bytes p → wellFormed r ≡ true → wellFormed (received r area p .receiver) ≡ true
   unfolding received
   keeps-well-formed bytes w = by-decision r area p
-      (λ n two d. rw d w)
+      (λ n l d. rw d w)
       (λ t. let s = t .packet in
       let read = read-packet (r .source) p s (t .read) bytes in
       let v = pictureFor r s in
@@ -194,7 +201,7 @@ module _ (r : Receiver) (area p : List ℕ) where
   pub area-long : length (areaAfter r area p) ≡ length area
   unfolding areaAfter
   area-long = by-decision r area p
-      (λ n two d. rw d)
+      (λ n l d. rw d)
       (λ t. let s = t .packet in
       rw (t .decided) (length-put area (s .offset) (scanIn p s) (omega (arith, t .accepted .fits, t .lent, picture-room r s, scan-long (r .source) p s (t .read)))))
 
@@ -202,32 +209,24 @@ module _ (r : Receiver) (area p : List ℕ) where
 module _ (r : Receiver) (area p : List ℕ) where
   pub source-stays : received r area p .receiver .source ≡ r .source
   unfolding received taken
-  source-stays = by-decision r area p (λ n two d. rw d) (λ t. rw (t .decided) (picture-source r (t .packet)))
+  source-stays = by-decision r area p (λ n l d. rw d) (λ t. rw (t .decided) (picture-source r (t .packet)))
 
   pub room-stays : received r area p .receiver .room ≡ r .room
   unfolding received taken
-  room-stays = by-decision r area p (λ n two d. rw d) (λ t. rw (t .decided) (picture-room r (t .packet)))
+  room-stays = by-decision r area p (λ n l d. rw d) (λ t. rw (t .decided) (picture-room r (t .packet)))
 
-  -- and 9 and 8 are answered to nothing else
-  pub record Replied : Type 0 where
-    pub not-9 : received r area p .answer .reply ≡ Reply.not-well-formed → ⊥
-    pub not-8 : received r area p .answer .reply ≡ Reply.area-not-room → ⊥
+  -- 9 and 8 are answered to nothing else
+  module _ (w : wellFormed r ≡ true) (long : length area ≡ r .room) where
+    neither : not (within 8 9 (received r area p .answer .reply)) ≡ true
+    unfolding received within
+    neither = by-decision r area p
+        (λ n l d. rw d (left-by r area p (λ (m : ℕ). not (within 8 9 m)) (λ f. absurd (never-both w f)) (λ o. absurd (o long)) refl (λ s. refl) l))
+        (λ t. rw (is-under 8 9 (received r area p .answer .reply) (omega (arith, reply-small r area p t))))
 
-  pub replied : wellFormed r ≡ true → length area ≡ r .room → Replied
-  replied w l = record { not-9 = λ e. go Reply.not-well-formed (omega arith) (omega arith) e; not-8 = λ e. go Reply.area-not-room (omega arith) (omega arith) e }
-    where
-      go : (m : ℕ) → 2 < m → m < 10 → received r area p .answer .reply ≡ m → ⊥
-      go m low high e = by-reading (reading (r .source) p) refl
-        where
-          told : (n : ℕ) → decision r area p ≡ leave n → n ≡ m
-          told n d = sym (ap (λ (x : Received). x .answer .reply) (when-left r area p d .0)) ∙ e
+    outside : 8 ≤ received r area p .answer .reply → received r area p .answer .reply ≤ 9 → ⊥
+    outside low high =
+        let n = received r area p .answer .reply in
+        never-both (is-within 8 9 n low high) (not-true (within 8 9 n) neither)
 
-          by-verdict : (s : Packet) → reading (r .source) p ≡ Answer.Said s → (j : Judged) → verdict r area p s ≡ j → ⊥
-          by-verdict s a Passed v =
-              let d : decision r area p ≡ accept s = read-first r area p w l ∙ rw (a, v) in
-              by-decision r area p (λ n two d′. let z : _≡_ {A = ℕ} 0 1 = cc in omega arith) (λ t. omega (arith, reply-small r area p t))
-          by-verdict s a (Refused n) v = refused-by (λ (n : ℕ). (n ≡ m) → ⊥) (checks (pictureFor r s) area p s) (omega arith) v (told n (read-first r area p w l ∙ rw (a, v)))
-
-          by-reading : (a : Reading) → reading (r .source) p ≡ a → ⊥
-          by-reading (Answer.Refused n) a = omega (arith, read-refused (r .source) p a, told n (read-first r area p w l ∙ rw a))
-          by-reading (Answer.Said s) a = by-verdict s a (verdict r area p s) refl
+    pub replied : (received r area p .answer .reply ≡ Reply.not-well-formed → ⊥) × (received r area p .answer .reply ≡ Reply.area-not-room → ⊥)
+    replied = (λ e. outside (omega arith) (omega arith), λ e. outside (omega arith) (omega arith))

@@ -2,10 +2,12 @@
 use Prim.Native.Nat.{ℕ}
 use mathlib.Core.Bool.{Bool, true, false}
 use mathlib.Core.List.{List, [], _∷_, _++_}
-use mathlib.Core.Path.{_≡_, refl, sym, subst, _∙_}
+use mathlib.Core.Path.{_≡_, refl, sym, _∙_}
 use lib.ListN.{drop}
 use native.Mathlib.Omega.{arith}
+use Rattle.laws.specs.All.{all}
 use Rattle.laws.specs.Each.{Each}
+use Rattle.laws.specs.Truth.{and-true}
 use Rattle.replies.specs.declared.Judged.{Judged}
 use Rattle.replies.specs.declared.Judged.the-variants.{Passed, Refused}
 
@@ -78,12 +80,15 @@ all-hold [] e = tt
 all-hold ((n when true) ∷ checks) e = absurd (never-refused (sym e))
 all-hold ((n when false) ∷ checks) e = (refl, all-hold checks e)
 
--- what holds of the number of each check holds of the number of a refusal
-abbrev pub Numbered : (ℕ → Type 0) → Check → Type 0
-Numbered P (n when b) = P n
+-- a test that the number of each check passes is passed by the number of a refusal
+abbrev pub numberOf : Check → ℕ
+numberOf (n when b) = n
 
-pub refused-by : (P : ℕ → Type 0) (checks : List Check) {n : ℕ} → Each (Numbered P) checks → judged checks ≡ Refused n → P n
+abbrev pub numbered : (ℕ → Bool) → List Check → Bool
+numbered test checks = all (λ (c : Check). test (numberOf c)) checks
+
+pub refused-by : (test : ℕ → Bool) (checks : List Check) {n : ℕ} → numbered test checks ≡ true → judged checks ≡ Refused n → test n ≡ true
 unfolding judged
-refused-by P [] a e = absurd (never-refused e)
-refused-by P ((m when true) ∷ checks) {n} a e = let same : m ≡ n = cc in subst P same (a .0)
-refused-by P ((m when false) ∷ checks) a e = refused-by P checks (a .1) e
+refused-by test [] a e = absurd (never-refused e)
+refused-by test ((m when true) ∷ checks) {n} a e = let same : m ≡ n = cc in rw same at (and-true (test m) (numbered test checks) a .0)
+refused-by test ((m when false) ∷ checks) a e = refused-by test checks (and-true (test m) (numbered test checks) a .1) e

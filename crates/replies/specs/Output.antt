@@ -1,16 +1,16 @@
 -- Calls that write into an output that the host lends: table making, the sender and the builder. Assumes nothing.
 use Prim.Native.Nat.{ℕ, _≤_, _<_}
-use mathlib.Core.Bool.{cond}
+use mathlib.Core.Bool.{Bool, true, cond, not}
 use mathlib.Core.List.{List, _++_}
+use mathlib.Core.Logic.{_⊎_, inl, inr, ⊎-elim}
 use mathlib.Core.Path.{_≡_, refl, sym, ap, _∙_}
 use native.Mathlib.Omega.{arith}
 use borrow.Author.Tests.{lt-ltb, le-ltb}
-use lib.Dec.{ltb}
+use lib.Dec.{ltb, eqb}
 use lib.ListN.{length, take, drop}
 use lib.Seq.{take-append-seam}
-use Rattle.laws.specs.Each.{Each}
-use Rattle.laws.specs.Truth.{split}
-use Rattle.replies.specs.Checks.{Check, Numbered, judged, refused-by}
+use Rattle.laws.specs.Truth.{split, never-both}
+use Rattle.replies.specs.Checks.{Check, judged, numbered, refused-by}
 use Rattle.replies.specs.Reply
 use Rattle.replies.specs.declared.Judged.{Judged}
 use Rattle.replies.specs.declared.Judged.the-variants.{Passed, Refused}
@@ -42,6 +42,17 @@ abbrev pub answerOf : Decision → Written
 answerOf (refuse n) = refused n
 answerOf (write bytes) = succeeded (length bytes)
 
+-- not the number of success
+abbrev pub notSuccess : ℕ → Bool
+notSuccess n = not (eqb n Reply.success)
+
+-- The outcomes of `Written::refusal` and of `Written::success`.
+abbrev pub IsRefusal : ℕ → Written → Type 0
+IsRefusal n w = w ≡ refused n
+
+abbrev pub IsSuccess : ℕ → Written → Type 0
+IsSuccess n w = w ≡ succeeded n
+
 -- A refusal leaves the output as it was; success writes the bytes in front and leaves what is past them.
 abbrev pub outputOf : List ℕ → Decision → List ℕ
 outputOf before (refuse n) = before
@@ -57,51 +68,61 @@ pub record Writes (short : ℕ) (decision : Decision) (before : List ℕ) (w : W
 pub writes-determined : {short : ℕ} {d : Decision} {before : List ℕ} {w w′ : Written} {after after′ : List ℕ} → Writes short d before w after → Writes short d before w′ after′ → (w ≡ w′) × (after ≡ after′)
 writes-determined a b = (a .answer ∙ sym (b .answer), a .output ∙ sym (b .output))
 
--- an answer other than success has length 0, and the output is as it was
-pub refusal-leaves : {short : ℕ} {d : Decision} {before : List ℕ} {w : Written} {after : List ℕ} → Writes short d before w after → (w .reply ≡ Reply.success → ⊥) → (w .length ≡ 0) × (after ≡ before)
-refusal-leaves {short} {d} {before} {w} {after} a refuses = go (fitted short before d) (a .answer) (a .output)
-  where
-    go : (f : Decision) → w ≡ answerOf f → after ≡ outputOf before f → (w .length ≡ 0) × (after ≡ before)
-    go (refuse n) e o = (ap (λ (x : Written). x .length) e, o)
-    go (write bytes) e o = absurd (refuses (ap (λ (x : Written). x .reply) e))
+-- An outcome that has refused, with the number of a short output or with the one decided on; and one that has written.
+pub record Unwritten (short : ℕ) (d : Decision) (before : List ℕ) (w : Written) (after : List ℕ) : Type 0 where
+  pub number : ℕ
+  pub why : (number ≡ short) ⊎ (d ≡ refuse number)
+  pub answer : w ≡ refused number
+  pub output : after ≡ before
 
--- from a decision back to what the checks came to
-pub decided-write : (j : Judged) (x : List ℕ) {bytes : List ℕ} → decided j x ≡ write bytes → (j ≡ Passed) × (x ≡ bytes)
-decided-write Passed x e = (refl, cc)
-decided-write (Refused n) x e = absurd (let z : _≡_ {A = ℕ} 0 1 = cc in omega arith)
-
-pub decided-refuse : (j : Judged) (x : List ℕ) {n : ℕ} → decided j x ≡ refuse n → j ≡ Refused n
-decided-refuse Passed x e = absurd (let z : _≡_ {A = ℕ} 0 1 = cc in omega arith)
-decided-refuse (Refused n) x e = cc
-
--- an answer of success has written the bytes, where no refusal has that number
 pub record Wrote (d : Decision) (before : List ℕ) (w : Written) (after : List ℕ) : Type 0 where
   pub bytes : List ℕ
   pub decision : d ≡ write bytes
-  pub long : w .length ≡ length bytes
+  pub answer : w ≡ succeeded (length bytes)
   pub output : after ≡ bytes ++ drop (length bytes) before
 
-pub success-wrote : {short : ℕ} {d : Decision} {before : List ℕ} {w : Written} {after : List ℕ} → Writes short d before w after → w .reply ≡ Reply.success → (short ≡ Reply.success → ⊥) → ((n : ℕ) → d ≡ refuse n → n ≡ Reply.success → ⊥) → Wrote d before w after
-success-wrote {short} {d} {before} {w} {after} a success full refuses = go d (a .answer) (a .output) refuses
+pub by-outcome : {P : Type 0} {short : ℕ} {d : Decision} {before : List ℕ} {w : Written} {after : List ℕ} → Writes short d before w after → (Unwritten short d before w after → P) → (Wrote d before w after → P) → P
+by-outcome {P} {short} {d} {before} {w} {after} a = go d (a .answer) (a .output)
   where
-    go : (d : Decision) → w ≡ answerOf (fitted short before d) → after ≡ outputOf before (fitted short before d) → ((n : ℕ) → d ≡ refuse n → n ≡ Reply.success → ⊥) → Wrote d before w after
-    go (refuse n) e o never = absurd (never n refl (sym (ap (λ (x : Written). x .reply) e) ∙ success))
-    go (write bytes) e o never =
+    go : (d : Decision) → w ≡ answerOf (fitted short before d) → after ≡ outputOf before (fitted short before d) → (Unwritten short d before w after → P) → (Wrote d before w after → P) → P
+    go (refuse n) e o refuses writes = refuses (record { number = n; why = inr refl; answer = e; output = o })
+    go (write bytes) e o refuses writes =
         split (ltb (length before) (length bytes))
-        (λ t. absurd (full (sym (ap (λ (x : Written). x .reply) (rw t at e)) ∙ success)))
-        (λ t. record { bytes = bytes; decision = refl; long = ap (λ (x : Written). x .length) (rw t at e); output = rw t at o })
+        (λ t. refuses (record { number = short; why = inl refl; answer = rw t at e; output = rw t at o }))
+        (λ t. writes (record { bytes = bytes; decision = refl; answer = rw t at e; output = rw t at o }))
 
-pub wrote-front : {d : Decision} {before : List ℕ} {w : Written} {after : List ℕ} (t : Wrote d before w after) → take (w .length) after ≡ t .bytes
-wrote-front {d} {before} {w} {after} t =
-    let past = drop (length (t .bytes)) before in
-    ap (λ (l : List ℕ). take (w .length) l) (t .output) ∙ ap (λ (n : ℕ). take n (t .bytes ++ past)) (t .long) ∙ take-append-seam (t .bytes) past
+-- an answer other than success has length 0, and the output is as it was
+pub refusal-leaves : {short : ℕ} {d : Decision} {before : List ℕ} {w : Written} {after : List ℕ} → Writes short d before w after → (w .reply ≡ Reply.success → ⊥) → (w .length ≡ 0) × (after ≡ before)
+refusal-leaves a refuses = by-outcome a
+    (λ u. (ap (λ (x : Written). x .length) (u .answer), u .output))
+    (λ t. absurd (refuses (ap (λ (x : Written). x .reply) (t .answer))))
 
--- the same where checks decide, none of which refuses with that number: they have passed, and the bytes stand in front
-pub success-checked : {short : ℕ} {before after : List ℕ} {w : Written} (checks : List Check) (bytes : List ℕ) → Writes short (decided (judged checks) bytes) before w after → w .reply ≡ Reply.success → (short ≡ Reply.success → ⊥) → Each (Numbered (λ (n : ℕ). n ≡ Reply.success → ⊥)) checks → (judged checks ≡ Passed) × (w .length ≡ length bytes) × (take (w .length) after ≡ bytes)
-success-checked checks bytes a success full numbered =
-    let t = success-wrote a success full (λ n e z. refused-by (λ (n : ℕ). n ≡ Reply.success → ⊥) checks numbered (decided-refuse (judged checks) bytes e) z) in
-    let d = decided-write (judged checks) bytes (t .decision) in
-    (d .0, t .long ∙ ap length (sym (d .1)), wrote-front t ∙ sym (d .1))
+-- where checks decide
+module _ {short : ℕ} {before after : List ℕ} {w : Written} (checks : List Check) (bytes : List ℕ) (a : Writes short (decided (judged checks) bytes) before w after) where
+  decided-refuse : (j : Judged) {n : ℕ} → decided j bytes ≡ refuse n → j ≡ Refused n
+  decided-refuse Passed e = absurd (let z : _≡_ {A = ℕ} 0 1 = cc in omega arith)
+  decided-refuse (Refused n) e = cc
+
+  decided-write : (j : Judged) {written : List ℕ} → decided j bytes ≡ write written → (j ≡ Passed) × (bytes ≡ written)
+  decided-write Passed e = (refl, cc)
+  decided-write (Refused n) e = absurd (let z : _≡_ {A = ℕ} 0 1 = cc in omega arith)
+
+  -- a test that each of their numbers passes, and that of a short output, is passed by the number of a refusal
+  refused-with : (test : ℕ → Bool) → test short ≡ true → numbered test checks ≡ true → (u : Unwritten short (decided (judged checks) bytes) before w after) → test (u .number) ≡ true
+  refused-with test full all u = ⊎-elim (λ e. rw e full) (λ e. refused-by test checks all (decided-refuse (judged checks) e)) (u .why)
+
+  pub refusal-number : (test : ℕ → Bool) → test short ≡ true → numbered test checks ≡ true → (w .reply ≡ Reply.success → ⊥) → test (w .reply) ≡ true
+  refusal-number test full all refuses = by-outcome a
+      (λ u. rw (u .answer) (refused-with test full all u))
+      (λ t. absurd (refuses (ap (λ (x : Written). x .reply) (t .answer))))
+
+  -- where none of them is that of success, an answer of success says that all have passed, and that the bytes stand in front
+  pub success-checked : notSuccess short ≡ true → numbered notSuccess checks ≡ true → w .reply ≡ Reply.success → (judged checks ≡ Passed) × (w .length ≡ length bytes) × (take (w .length) after ≡ bytes)
+  success-checked full all success = by-outcome a
+      (λ u. absurd (never-both (refused-with notSuccess full all u) (rw (sym (ap (λ (x : Written). x .reply) (u .answer)) ∙ success))))
+      (λ t. let d = decided-write (judged checks) (t .decision) in
+      let long : w .length ≡ length bytes = ap (λ (x : Written). x .length) (t .answer) ∙ ap length (sym (d .1)) in
+      (d .0, long, rw (long, t .output, ← d .1) (take-append-seam bytes (drop (length bytes) before))))
 
 pub writes-refused : {short n : ℕ} {before : List ℕ} {w : Written} → w ≡ refused n → Writes short (refuse n) before w before
 writes-refused e = record { answer = e; output = refl }

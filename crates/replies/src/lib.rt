@@ -1,6 +1,5 @@
 // The reply numbers of document 01, what a list of checks comes to, and what the calls that write into a lent output answer.
-ghost use mathlib.Core.Path.{_≡_};
-ghost use Rattle.replies.specs.Output.{refused, succeeded};
+ghost use Rattle.replies.specs.Output.{IsRefusal, IsSuccess};
 
 // specs/Reply.antt says what each number means, under the same name.
 pub const SUCCESS: u32 = 0;
@@ -84,7 +83,7 @@ pub struct Written {
 
 impl Written {
     pub fn refusal(number: u32) -> Self
-        ensures { λ w. ⌜ w ≡ refused number ⌝ }
+        ensures { λ w. ⌜ IsRefusal number w ⌝ }
     {
         Self {
             reply: number,
@@ -93,7 +92,7 @@ impl Written {
     }
 
     pub fn success(length: u32) -> Self
-        ensures { λ w. ⌜ w ≡ succeeded length ⌝ }
+        ensures { λ w. ⌜ IsSuccess length w ⌝ }
     {
         Self {
             reply: SUCCESS,

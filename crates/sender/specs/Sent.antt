@@ -1,14 +1,12 @@
 -- The packets of a picture that the sender takes. Assumes nothing.
 use Prim.Native.Nat.{ℕ, suc, _+_, _^_, _≤_, _<_}
 use mathlib.Core.List.{List}
-use mathlib.Core.Path.{_≡_}
+use mathlib.Core.Path.{_≡_, refl}
 use native.Mathlib.Omega.{arith}
 use lib.ListN.{length, take}
 use Rattle.fragments.specs.Fragments.{fragmentAt}
 use Rattle.fragments.specs.Tiles.{Inside, tiles-inside}
 use Rattle.fragments.specs.declared.Fragment.{Fragment}
-use Rattle.laws.specs.Each.{Each}
-use Rattle.replies.specs.Checks.{Numbered}
 use Rattle.replies.specs.Output.{success-checked}
 use Rattle.replies.specs.Reply
 use Rattle.replies.specs.declared.Written.{Written}
@@ -67,15 +65,11 @@ pub record Sent (p : Picture) (size : ℕ) (s : Stamp) (k : ℕ) (w : Written) (
   pub long : w .length ≡ length (packet s p k (fragmentAt (cuts size p) k))
   pub front : take (w .length) after ≡ packet s p k (fragmentAt (cuts size p) k)
 
--- no refusal has the number of success
-numbered : (p : Picture) (size k : ℕ) → Each (Numbered (λ (n : ℕ). n ≡ Reply.success → ⊥)) (checks p size k)
-numbered p size k = (λ e. omega arith, (λ e. omega arith, (λ e. omega arith, (λ e. omega arith, (λ e. omega arith, (λ e. omega arith, tt))))))
-
 module _ (p : Picture) (size : ℕ) (s : Stamp) (k : ℕ) {before : List ℕ} {w : Written} {after : List ℕ} (sends : Sends p size s k before w after) (success : w .reply ≡ Reply.success) where
   pub sent : Sent p size s k w after
   unfolding sending
   sent =
-      let t = success-checked (checks p size k) (packet s p k (fragmentAt (cuts size p) k)) sends success (λ e. omega arith) (numbered p size k) in
+      let t = success-checked (checks p size k) (packet s p k (fragmentAt (cuts size p) k)) sends refl refl success in
       record {
         ok = accepted p size k (t .0);
         long = t .1;

@@ -7,7 +7,8 @@ use Rattle.fragments.specs.Array.{noFragments}
 use Rattle.fragments.specs.Held.{reached}
 use Rattle.fragments.specs.Shared.{alike}
 use Rattle.kept.specs.Kept.{blank, none-well}
-use Rattle.laws.specs.Within.{Between, is-within, is-under}
+use Rattle.laws.specs.Truth.{split}
+use Rattle.laws.specs.Within.{Between, is-within, is-under, between}
 use Rattle.replies.specs.Reply
 use Rattle.state.specs.Receiver.{fresh}
 use Rattle.state.specs.WellFormed.{isRoom, isUnset, pictureRight, tablesGiven, wellFormed, is-well-formed}
@@ -30,6 +31,16 @@ Opens source room o = o ≡ opening source room
 pub opens : (source room : ℕ) → Between 1 65536 room → opening source room ≡ opened Reply.success (fresh source room)
 unfolding opening
 opens source room b = rw (is-within 1 65536 room (b .0) (b .1))
+
+pub opens-not : (source room : ℕ) → isRoom room ≡ false → opening source room ≡ opened Reply.room-outside (fresh source 0)
+unfolding opening
+opens-not source room e = rw e
+
+-- so success says that the room is of that range
+pub opened-room : (source room : ℕ) → opening source room .answer .reply ≡ Reply.success → Between 1 65536 room
+opened-room source room e = split (isRoom room)
+    (λ t. between 1 65536 room t)
+    (λ t. absurd (omega (arith, rw (opens-not source room t) at e)))
 
 -- what is opened is well formed, and a receiver with room 0 is not
 pub fresh-well-formed : (source room : ℕ) → Between 1 65536 room → wellFormed (fresh source room) ≡ true

@@ -1,6 +1,6 @@
 -- What is known of a packet that is read. Assumes nothing.
 use Prim.Native.Nat.{ℕ, _+_, _^_, _≤_, _<_}
-use mathlib.Core.Bool.{true, false}
+use mathlib.Core.Bool.{Bool, true, false}
 use mathlib.Core.List.{List, append-nil}
 use mathlib.Core.Logic.{_⊎_, inl, inr, ⊎-elim}
 use mathlib.Core.Path.{_≡_, refl, sym}
@@ -13,7 +13,7 @@ use Rattle.laws.specs.Each.{Each, each-take, each-drop, each-weaken, each-both}
 use Rattle.laws.specs.Any.{any-none}
 use Rattle.laws.specs.Truth.{and-true}
 use Rattle.laws.specs.Within.{Between}
-use Rattle.replies.specs.Checks.{judged, both-passed, refused-by}
+use Rattle.replies.specs.Checks.{judged, both-passed, numbered, refused-by}
 use Rattle.replies.specs.declared.Judged.{Judged}
 use Rattle.replies.specs.declared.Judged.the-variants.{Passed, Refused}
 use Rattle.wire.specs.Field.{Bytes, byte-small, field-small}
@@ -65,14 +65,14 @@ read-passes source p s e =
     let both = both-passed (rtpChecks source p) (jpegChecks (payload p)) (t .0) in
     record { rtp = rtp-passed source p (both .0); jpeg = jpeg-passed (payload p) (both .1); says = t .1 }
 
--- a refusal is numbered from 10 on
+-- a test that the number of each check passes is passed by the number of a refusal
 refused : (j : Judged) (t : Packet) {n : ℕ} → answered j t ≡ Answer.Refused n → j ≡ Refused n
 refused Passed t e = absurd (let z : _≡_ {A = ℕ} 0 1 = cc in omega arith)
 refused (Refused m) t e = cc
 
-pub read-refused : (source : ℕ) (p : List ℕ) {n : ℕ} → reading source p ≡ Answer.Refused n → 10 ≤ n
+pub read-refused : (source : ℕ) (p : List ℕ) (test : ℕ → Bool) {n : ℕ} → numbered test (checks source p) ≡ true → reading source p ≡ Answer.Refused n → test n ≡ true
 unfolding reading
-read-refused source p e = refused-by (λ (n : ℕ). 10 ≤ n) (checks source p) (omega arith) (refused (judged (checks source p)) (said p) e)
+read-refused source p test a e = refused-by test (checks source p) a (refused (judged (checks source p)) (said p) e)
 
 module _ (b : List ℕ) (bytes : Bytes b) (jpeg : JpegPassed b) where
   lawful : Lawful (headerOf b)

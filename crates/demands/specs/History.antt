@@ -1,0 +1,131 @@
+-- A history of calls, a packet each. Assumes nothing.
+use Prim.Native.Nat.{ℕ}
+use mathlib.Core.List.{List, [], _∷_}
+use mathlib.Core.Path.{_≡_, refl, sym, ap, ap₂, _∙_}
+use lib.ListN.{length}
+use Rattle.laws.specs.Each.{Each}
+use Rattle.laws.specs.Within.{Between}
+use Rattle.receiver.specs.Step.{received, areaAfter, Receives}
+use Rattle.receiver.specs.declared.Received.{Received}
+use Rattle.records.specs.Framing as Framing
+use Rattle.records.specs.Framing.{Front, front}
+use Rattle.records.specs.Taking.{Takes, takenBy, areaBy}
+use Rattle.records.specs.declared.Next.{Next}
+use Rattle.records.specs.declared.Next.the-variants.{End, Cut, Answered}
+use Rattle.records.specs.declared.Taken.{Taken}
+use Rattle.replies.specs.Reply
+use Rattle.state.specs.Opening.{Opens, opens}
+use Rattle.state.specs.Receiver.{fresh}
+use Rattle.state.specs.declared.Answer.{Answer}
+use Rattle.state.specs.declared.Opened.{Opened}
+use Rattle.state.specs.declared.Receiver.{Receiver}
+use Rattle.wire.specs.Field.{Bytes}
+
+-- A receiver, and the scan area that is lent with it.
+pub record State : Type 0 where
+  pub receiver : Receiver
+  pub area : List ℕ
+
+abbrev pub state : Receiver → List ℕ → State
+state receiver area = record { receiver = receiver; area = area }
+
+-- Calls of `receiver::receive` or of `ljosvark::lj_receive`, a packet each and an answer to each: every call meets its contract, and is
+-- handed receiver and area as the last one left them.
+abbrev pub Calls : State → List (List ℕ) → List Answer → State → Type 0
+Calls x [] [] y = x ≡ y
+Calls x [] (a ∷ given) y = ⊥
+Calls x (p ∷ packets) [] y = ⊥
+Calls x (p ∷ packets) (a ∷ given) y =
+    (z : State)
+    × Receives (x .receiver) (x .area) p (record { answer = a; receiver = z .receiver }) (z .area)
+    × Calls z packets given y
+
+-- "Take a receiver we opened and a scan area as long as its room, after any history of calls, every call handed both as the last one
+-- left them." Opened means with reply 0; a packet is a list of bytes, of any length; and x is what the history leaves.
+pub record History (source room : ℕ) (packets : List (List ℕ)) (given : List Answer) (x : State) : Type 0 where
+  pub first : Opened
+  pub opened : Opens source room first
+  pub with-reply-0 : first .answer .reply ≡ Reply.success
+  pub area : List ℕ
+  pub as-long-as-the-room : length area ≡ room
+  pub bytes : Each Bytes packets
+  pub calls : Calls (state (first .receiver) area) packets given x
+
+-- Accepted is reply 0 or 1; any other is a refusal, or again.
+abbrev pub NotAccepted : Answer → Type 0
+NotAccepted a = (a .reply ≡ Reply.held → ⊥) × (a .reply ≡ Reply.whole → ⊥)
+
+-- ---- laws
+
+-- What a call gives: an answer, and what it leaves for the next one.
+pub record Outcome (S : Type 0) : Type 0 where
+  pub answer : Answer
+  pub left : S
+
+abbrev outcome : {S : Type 0} → Answer → S → Outcome S
+outcome answer left = record { answer = answer; left = left }
+
+-- Of any step that takes packets one by one: what a list of them leaves, and the answers to them.
+module _ {S : Type 0} (step : S → List ℕ → Outcome S) where
+  abbrev pub after : S → List (List ℕ) → S
+  after x [] = x
+  after x (p ∷ packets) = after (step x p .left) packets
+
+  abbrev pub answers : S → List (List ℕ) → List Answer
+  answers x [] = []
+  answers x (p ∷ packets) = step x p .answer ∷ answers (step x p .left) packets
+
+-- The receiver's step.
+abbrev pub step : State → List ℕ → Outcome State
+step x p = let d = received (x .receiver) (x .area) p in outcome (d .answer) (state (d .receiver) (areaAfter (x .receiver) (x .area) p))
+
+-- a call that meets its contract is a step, and so a history is what the step makes of its packets
+is-step : (x : State) (p : List ℕ) (a : Answer) (z : State) → Receives (x .receiver) (x .area) p (record { answer = a; receiver = z .receiver }) (z .area) → outcome a z ≡ step x p
+is-step x p a z met = ap₂ (λ (d : Received) (area : List ℕ). outcome (d .answer) (state (d .receiver) area)) (met .answer) (met .lent)
+
+pub calls-step : (x : State) (packets : List (List ℕ)) (given : List Answer) (y : State) → Calls x packets given y → (given ≡ answers step x packets) × (y ≡ after step x packets)
+calls-step x [] [] y c = (refl, sym c)
+calls-step x [] (a ∷ given) y c = absurd c
+calls-step x (p ∷ packets) [] y c = absurd c
+calls-step x (p ∷ packets) (a ∷ given) y c =
+    let one = is-step x p a (c .0) (c .1) in
+    let rest = calls-step (c .0) packets given y (c .2) in (
+      ap (λ (l : List Answer). a ∷ l) (rest .0) ∙ ap (λ (o : Outcome State). o .answer ∷ answers step (o .left) packets) one,
+      rest .1 ∙ ap (λ (o : Outcome State). after step (o .left) packets) one,
+    )
+
+step-calls : (x : State) (packets : List (List ℕ)) → Calls x packets (answers step x packets) (after step x packets)
+step-calls x [] = refl
+step-calls x (p ∷ packets) = (step x p .left, record { answer = refl; lent = refl }, step-calls (step x p .left) packets)
+
+-- A call of `records::take` is a call with the packet of a complete record, and none at the end of a stream and in a cut record.
+abbrev pub packetIn : Front → List (List ℕ)
+packetIn Framing.Front.nothing = []
+packetIn Framing.Front.cut = []
+packetIn (Framing.Front.packet p) = p ∷ []
+
+abbrev pub answerIn : Next → List Answer
+answerIn End = []
+answerIn Cut = []
+answerIn (Answered a) = a ∷ []
+
+pub take-calls : (r : Receiver) (area bytes : List ℕ) (t : Taken) (after : List ℕ) → Takes r area bytes t after → Calls (state r area) (packetIn (front bytes)) (answerIn (t .came)) (state (t .receiver) after)
+take-calls r area bytes t after met = rw (met .taken, met .lent) (go (front bytes))
+  where
+    go : (f : Front) → Calls (state r area) (packetIn f) (answerIn (takenBy f r area .came)) (state (takenBy f r area .receiver) (areaBy f r area))
+    go Framing.Front.nothing = refl
+    go Framing.Front.cut = refl
+    go (Framing.Front.packet p) = step-calls (state r area) (p ∷ [])
+
+-- There is one for any source, any room of 1 to 65,536, any area of that length, and any packets of any bytes.
+module _ (source room : ℕ) (area : List ℕ) (packets : List (List ℕ)) where
+  pub history : Between 1 65536 room → length area ≡ room → Each Bytes packets → History source room packets (answers step (state (fresh source room) area) packets) (after step (state (fresh source room) area) packets)
+  history range long bytes = record {
+    first = record { answer = record { reply = Reply.success; held = 0 }; receiver = fresh source room };
+    opened = sym (opens source room range);
+    with-reply-0 = refl;
+    area = area;
+    as-long-as-the-room = long;
+    bytes = bytes;
+    calls = step-calls (state (fresh source room) area) packets;
+  }

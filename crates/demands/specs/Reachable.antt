@@ -1,0 +1,52 @@
+-- What holds after every history. Assumes nothing.
+use Prim.Native.Nat.{ℕ}
+use mathlib.Core.Bool.{true}
+use mathlib.Core.List.{List, [], _∷_}
+use mathlib.Core.Path.{_≡_, refl, ap, _∙_}
+use lib.ListN.{length}
+use Rattle.laws.specs.Each.{Each}
+use Rattle.receiver.specs.Laws.{keeps-well-formed, area-long, source-stays, room-stays, replied}
+use Rattle.replies.specs.Reply
+use Rattle.state.specs.Opening.{opens, opened-room, fresh-well-formed}
+use Rattle.state.specs.Receiver.{fresh}
+use Rattle.state.specs.WellFormed.{wellFormed}
+use Rattle.state.specs.declared.Answer.{Answer}
+use Rattle.state.specs.declared.Opened.{Opened}
+use Rattle.wire.specs.Field.{Bytes}
+use Rattle.demands.specs.History.{State, state, History, step, after, answers, calls-step}
+
+-- The state of a receiver of that source and room, and the answers that were given up to it.
+pub record Reached (source room : ℕ) (given : List Answer) (x : State) : Type 0 where
+  pub source-stays : x .receiver .source ≡ source
+  pub room-stays : x .receiver .room ≡ room
+  pub well-formed : wellFormed (x .receiver) ≡ true
+  pub as-long-as-the-room : length (x .area) ≡ room
+  pub never-9 : Each (λ (a : Answer). a .reply ≡ Reply.not-well-formed → ⊥) given
+  pub never-8 : Each (λ (a : Answer). a .reply ≡ Reply.area-not-room → ⊥) given
+
+-- What any packets make of such a state is one.
+pub stays : (x : State) (packets : List (List ℕ)) → wellFormed (x .receiver) ≡ true → length (x .area) ≡ x .receiver .room → Each Bytes packets → Reached (x .receiver .source) (x .receiver .room) (answers step x packets) (after step x packets)
+stays x [] well long bytes = record { source-stays = refl; room-stays = refl; well-formed = well; as-long-as-the-room = long; never-9 = tt; never-8 = tt }
+stays x (p ∷ packets) well long bytes =
+    let r = x .receiver in
+    let source = source-stays r (x .area) p in
+    let room = room-stays r (x .area) p in
+    let lent = area-long r (x .area) p ∙ long in
+    let rest = stays (step x p .left) packets (keeps-well-formed r (x .area) p (bytes .0) well) (rw room lent) (bytes .1) in
+    let other = replied r (x .area) p well long in
+    record {
+      source-stays = rest .source-stays ∙ source;
+      room-stays = rest .room-stays ∙ room;
+      well-formed = rest .well-formed;
+      as-long-as-the-room = rest .as-long-as-the-room ∙ room;
+      never-9 = (other .0, rest .never-9);
+      never-8 = (other .1, rest .never-8);
+    }
+
+-- After any history the receiver is well formed and the area as long as the room, and neither 9 nor 8 was ever answered.
+pub reachable : (source room : ℕ) (packets : List (List ℕ)) (given : List Answer) (x : State) → History source room packets given x → Reached source room given x
+reachable source room packets given x h =
+    let range = opened-room source room (rw (h .opened) at (h .with-reply-0)) in
+    let new : h .first .receiver ≡ fresh source room = ap (λ (o : Opened). o .receiver) (h .opened ∙ opens source room range) in
+    let left = calls-step (state (h .first .receiver) (h .area)) packets given x (h .calls) in
+    rw (left .0, left .1, new) (stays (state (fresh source room) (h .area)) packets (fresh-well-formed source room range) (h .as-long-as-the-room) (h .bytes))
