@@ -1,19 +1,22 @@
 -- What the builder makes of a whole picture. Assumes nothing.
 use Prim.Native.Nat.{ℕ, _≤_}
-use mathlib.Core.List.{List, _++_, append-assoc}
+use mathlib.Core.Bool.{true, not}
+use mathlib.Core.List.{List, [], _∷_, _++_, append-assoc}
 use mathlib.Core.Path.{_≡_, refl, _∙_}
-use borrow.Author.Tests.{le-ltb}
+use native.Mathlib.Omega.{arith}
+use borrow.Author.Tests.{le-ltb, eq-eqb, not-true}
 use lib.ListN.{length, take, drop}
 use Rattle.head.specs.Head.{head}
 use Rattle.laws.specs.Truth.{same}
+use Rattle.laws.specs.Within.{within, is-none}
 use Rattle.replies.specs.Checks.{judged, start, passes, none-left}
-use Rattle.replies.specs.Output.{succeeded, success-checked}
+use Rattle.replies.specs.Output.{decided, succeeded, reply-by, success-checked}
 use Rattle.replies.specs.Reply
 use Rattle.replies.specs.declared.Judged.the-variants.{Passed}
 use Rattle.replies.specs.declared.Written.{Written}
-use Rattle.state.specs.WellFormed.{is-well-formed}
+use Rattle.state.specs.WellFormed.{wellFormed, is-well-formed}
 use Rattle.state.specs.declared.Receiver.{Receiver}
-use Rattle.builder.specs.Building.{Builds, Buildable, building, buildable, checks, frameOf, scanOf, fileOf}
+use Rattle.builder.specs.Building.{Builds, Buildable, building, buildable, checks, wholeCheck, frameOf, scanOf, fileOf}
 use Rattle.builder.specs.File.{body, closing, file}
 
 module _ (r : Receiver) (area : List ℕ) {before after : List ℕ} {w : Written} (builds : Builds r area before w after) where
@@ -35,3 +38,18 @@ module _ (r : Receiver) (area : List ℕ) {before after : List ℕ} {w : Written
     success-built =
         let t = success-checked (checks r area) (fileOf r area) builds refl refl success in
         (buildable r area (t .0), t .1, t .2)
+
+  -- 9 and 8 are answered to no well-formed receiver with an area as long as its room.
+  module _ (well : wellFormed r ≡ true) (room : length area ≡ r .room) where
+    only-whole : building r area ≡ decided (judged (wholeCheck r ∷ [])) (fileOf r area)
+    unfolding building judged
+    only-whole = rw (well, eq-eqb (length area) (r .room) room)
+
+    neither : not (within 8 9 (w .reply)) ≡ true
+    unfolding within
+    neither = reply-by (wholeCheck r ∷ []) (fileOf r area) (rw only-whole at builds) (λ (n : ℕ). not (within 8 9 n)) refl refl refl
+
+    pub replied : (w .reply ≡ Reply.not-well-formed → ⊥) × (w .reply ≡ Reply.area-not-room → ⊥)
+    replied =
+        let out = is-none 8 9 (w .reply) (not-true (within 8 9 (w .reply)) neither) in
+        (out 9 (omega arith), out 8 (omega arith))

@@ -43,13 +43,13 @@ Calls x (p ∷ packets) (a ∷ given) y =
 -- "Take a receiver we opened and a scan area as long as its room, after any history of calls, every call handed both as the last one
 -- left them." Opened means with reply 0; a packet is a list of bytes, of any length; and x is what the history leaves.
 pub record History (source room : ℕ) (packets : List (List ℕ)) (given : List Answer) (x : State) : Type 0 where
-  pub first : Opened
-  pub opened : Opens source room first
-  pub with-reply-0 : first .answer .reply ≡ Reply.success
+  pub opened : Opened
+  pub opens : Opens source room opened
+  pub with-reply-0 : opened .answer .reply ≡ Reply.success
   pub area : List ℕ
   pub as-long-as-the-room : length area ≡ room
   pub bytes : Each Bytes packets
-  pub calls : Calls (state (first .receiver) area) packets given x
+  pub calls : Calls (state (opened .receiver) area) packets given x
 
 -- Accepted is reply 0 or 1; any other is a refusal, or again.
 abbrev pub NotAccepted : Answer → Type 0
@@ -121,8 +121,8 @@ take-calls r area bytes t after met = rw (met .taken, met .lent) (go (front byte
 module _ (source room : ℕ) (area : List ℕ) (packets : List (List ℕ)) where
   pub history : Between 1 65536 room → length area ≡ room → Each Bytes packets → History source room packets (answers step (state (fresh source room) area) packets) (after step (state (fresh source room) area) packets)
   history range long bytes = record {
-    first = record { answer = record { reply = Reply.success; held = 0 }; receiver = fresh source room };
-    opened = sym (opens source room range);
+    opened = record { answer = record { reply = Reply.success; held = 0 }; receiver = fresh source room };
+    opens = sym (opens source room range);
     with-reply-0 = refl;
     area = area;
     as-long-as-the-room = long;

@@ -2,11 +2,14 @@
 use Prim.Native.Nat.{ℕ}
 use mathlib.Core.Bool.{true}
 use mathlib.Core.List.{List, [], _∷_}
-use mathlib.Core.Path.{_≡_, refl, ap, _∙_}
+use mathlib.Core.Path.{_≡_, refl, sym, ap, _∙_}
 use lib.ListN.{length}
+use Rattle.builder.specs.Building.{Builds}
+use Rattle.builder.specs.Built.{replied as built-replied}
 use Rattle.laws.specs.Each.{Each}
 use Rattle.receiver.specs.Laws.{keeps-well-formed, area-long, source-stays, room-stays, replied}
 use Rattle.replies.specs.Reply
+use Rattle.replies.specs.declared.Written.{Written}
 use Rattle.state.specs.Opening.{opens, opened-room, fresh-well-formed}
 use Rattle.state.specs.Receiver.{fresh}
 use Rattle.state.specs.WellFormed.{wellFormed}
@@ -24,7 +27,7 @@ pub record Reached (source room : ℕ) (given : List Answer) (x : State) : Type 
   pub never-9 : Each (λ (a : Answer). a .reply ≡ Reply.not-well-formed → ⊥) given
   pub never-8 : Each (λ (a : Answer). a .reply ≡ Reply.area-not-room → ⊥) given
 
--- What any packets make of such a state is one.
+-- From any well-formed receiver with an area as long as its room, opened just now or not.
 pub stays : (x : State) (packets : List (List ℕ)) → wellFormed (x .receiver) ≡ true → length (x .area) ≡ x .receiver .room → Each Bytes packets → Reached (x .receiver .source) (x .receiver .room) (answers step x packets) (after step x packets)
 stays x [] well long bytes = record { source-stays = refl; room-stays = refl; well-formed = well; as-long-as-the-room = long; never-9 = tt; never-8 = tt }
 stays x (p ∷ packets) well long bytes =
@@ -43,10 +46,16 @@ stays x (p ∷ packets) well long bytes =
       never-8 = (other .1, rest .never-8);
     }
 
--- After any history the receiver is well formed and the area as long as the room, and neither 9 nor 8 was ever answered.
+-- After any history the receiver is well formed and the area as long as the room, and neither 9 nor 8 was ever answered;
 pub reachable : (source room : ℕ) (packets : List (List ℕ)) (given : List Answer) (x : State) → History source room packets given x → Reached source room given x
 reachable source room packets given x h =
-    let range = opened-room source room (rw (h .opened) at (h .with-reply-0)) in
-    let new : h .first .receiver ≡ fresh source room = ap (λ (o : Opened). o .receiver) (h .opened ∙ opens source room range) in
-    let left = calls-step (state (h .first .receiver) (h .area)) packets given x (h .calls) in
+    let range = opened-room source room (rw (h .opens) at (h .with-reply-0)) in
+    let new : h .opened .receiver ≡ fresh source room = ap (λ (o : Opened). o .receiver) (h .opens ∙ opens source room range) in
+    let left = calls-step (state (h .opened .receiver) (h .area)) packets given x (h .calls) in
     rw (left .0, left .1, new) (stays (state (fresh source room) (h .area)) packets (fresh-well-formed source room range) (h .as-long-as-the-room) (h .bytes))
+
+-- nor is it by the builder then.
+pub builds : (source room : ℕ) (packets : List (List ℕ)) (given : List Answer) (x : State) (before : List ℕ) (w : Written) (after : List ℕ) → History source room packets given x → Builds (x .receiver) (x .area) before w after → (w .reply ≡ Reply.not-well-formed → ⊥) × (w .reply ≡ Reply.area-not-room → ⊥)
+builds source room packets given x before w after h met =
+    let r = reachable source room packets given x h in
+    built-replied (x .receiver) (x .area) met (r .well-formed) (r .as-long-as-the-room ∙ sym (r .room-stays))

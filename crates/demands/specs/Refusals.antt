@@ -5,7 +5,7 @@ use mathlib.Core.Bool.{Bool, true}
 use mathlib.Core.List.{List, [], _∷_, _++_}
 use mathlib.Core.Path.{_≡_, refl, sym, ap, ap₂, _∙_}
 use native.Mathlib.Omega.{arith}
-use borrow.Author.Tests.{eqb-true, eqb-false}
+use borrow.Author.Tests.{eqb-true, eqb-false, ne-eqb}
 use lib.Dec.{eqb}
 use Rattle.builder.specs.Building as Building
 use Rattle.builder.specs.Building.{Builds, building, fileOf}
@@ -21,7 +21,7 @@ use Rattle.records.specs.Framing.{front}
 use Rattle.records.specs.Taking.{Takes}
 use Rattle.records.specs.declared.Taken.{Taken}
 use Rattle.replies.specs.Checks.{Check, judged, numbered}
-use Rattle.replies.specs.Output.{Writes, decided, refusal-leaves, refusal-number}
+use Rattle.replies.specs.Output.{Writes, decided, refusal-leaves, reply-by}
 use Rattle.replies.specs.Reply
 use Rattle.replies.specs.declared.Written.{Written}
 use Rattle.sender.specs.Cuts.{cuts}
@@ -70,22 +70,26 @@ pub record Refused (numbers before : List ℕ) (w : Written) (after : List ℕ) 
   pub no-byte-changed : after ≡ before
 
 -- where checks decide
-refused : {short : ℕ} {before after : List ℕ} {w : Written} (numbers : List ℕ) (checks : List Check) (bytes : List ℕ) → Writes short (decided (judged checks) bytes) before w after → isOneOf numbers short ≡ true → numbered (isOneOf numbers) checks ≡ true → (w .reply ≡ Reply.success → ⊥) → Refused numbers before w after
-refused numbers checks bytes a full all refuses =
+refused : {short : ℕ} {before after : List ℕ} {w : Written} (numbers : List ℕ) (checks : List Check) (bytes : List ℕ) → Writes short (decided (judged checks) bytes) before w after → isOneOf (Reply.success ∷ numbers) short ≡ true → numbered (isOneOf (Reply.success ∷ numbers)) checks ≡ true → (w .reply ≡ Reply.success → ⊥) → Refused numbers before w after
+refused {w = w} numbers checks bytes a full all refuses =
     let l = refusal-leaves a refuses in
-    record { number = refusal-number checks bytes a (isOneOf numbers) full all refuses; no-length = l .0; no-byte-changed = l .1 }
+    record {
+      number = rw (ne-eqb (w .reply) Reply.success refuses) at (reply-by checks bytes a (isOneOf (Reply.success ∷ numbers)) refl full all);
+      no-length = l .0;
+      no-byte-changed = l .1;
+    }
 
--- `tables::make_tables` and `lj_make_tables`
+-- `tables::make_tables` and `ljosvark::lj_make_tables`
 pub make-tables : (q : ℕ) (before : List ℕ) (w : Written) (after : List ℕ) → MakesTables q before w after → (w .reply ≡ Reply.success → ⊥) → Refused ofTables before w after
 unfolding tablesFor
 make-tables q before w after a refuses = refused ofTables (MakeTables.checks q) (tablesOf q) a refl refl refuses
 
--- `sender::packet` and `lj_packet`
+-- `sender::packet` and `ljosvark::lj_packet`
 pub packet : (p : Picture) (size : ℕ) (s : Stamp) (k : ℕ) (before : List ℕ) (w : Written) (after : List ℕ) → Sends p size s k before w after → (w .reply ≡ Reply.success → ⊥) → Refused ofSender before w after
 unfolding sending
 packet p size s k before w after a refuses = refused ofSender (Sending.checks p size k) (Packet.packet s p k (fragmentAt (cuts size p) k)) a refl refl refuses
 
--- `builder::build` and `lj_build`
+-- `builder::build` and `ljosvark::lj_build`
 pub build : (r : Receiver) (area before : List ℕ) (w : Written) (after : List ℕ) → Builds r area before w after → (w .reply ≡ Reply.success → ⊥) → Refused ofBuilder before w after
 unfolding building
 build r area before w after a refuses = refused ofBuilder (Building.checks r area) (fileOf r area) a refl refl refuses
@@ -94,7 +98,7 @@ build r area before w after a refuses = refused ofBuilder (Building.checks r are
 pub read : (source : ℕ) (packet : List ℕ) (n : ℕ) → Reads source packet (Reading.Refused n) → isOneOf ofReader n ≡ true
 read source packet n a = read-refused source packet (isOneOf ofReader) refl (sym a)
 
--- `state::open` and `lj_open`: 7, and the fresh receiver that document 01 asks for
+-- `state::open` and `ljosvark::lj_open`: 7, and the fresh receiver that document 01 asks for
 pub opens : (source room : ℕ) (o : Opened) → Opens source room o → (o .answer .reply ≡ Reply.success → ⊥) → o ≡ record { answer = record { reply = 7; held = 0 }; receiver = fresh source 0 }
 opens source room o a refuses = split (isRoom room)
     (λ e. absurd (refuses (ap (λ (x : Opened). x .answer .reply) a ∙ rw (opens-when source room (between 1 65536 room e)))))
@@ -107,7 +111,7 @@ pub record Unchanged (numbers : List ℕ) (r : Receiver) (area : List ℕ) (d : 
   pub receiver-handed-back : d .receiver ≡ r
   pub area-as-it-was : after ≡ area
 
--- `receiver::receive` and `lj_receive`: any reply but held and whole is again or a refusal
+-- `receiver::receive` and `ljosvark::lj_receive`: any reply but held and whole is again or a refusal
 pub receive : (r : Receiver) (area p : List ℕ) (d : Received) (after : List ℕ) → Receives r area p d after → NotAccepted (d .answer) → Unchanged (Reply.again ∷ ofReceiver) r area d after
 receive r area p d after a not = by-decision r area p
     (λ n l decided.

@@ -4,7 +4,7 @@ use mathlib.Core.Bool.{Bool, true, false, _&&_}
 use mathlib.Core.Path.{_≡_}
 use borrow.Author.Tests.{leb-true, le-leb, lt-leb}
 use lib.Dec.{leb}
-use Rattle.laws.specs.Truth.{and-true, and-false}
+use Rattle.laws.specs.Truth.{never-both, and-true, and-false}
 
 unfoldable pub within : ℕ → ℕ → ℕ → Bool
 within low high n = leb low n && leb n high
@@ -27,6 +27,10 @@ module _ (low high n : ℕ) where
   pub is-over : high < n → within low high n ≡ false
   unfolding within
   is-over h = rw (lt-leb n high h) (and-false (leb low n))
+
+  -- what does not lie within is none of those that do
+  pub is-none : within low high n ≡ false → (m : ℕ) → Between low high m → n ≡ m → ⊥
+  is-none out m b e = never-both (is-within (rw e (b .0)) (rw e (b .1))) out
 
   pub between : within low high n ≡ true → Between low high n
   unfolding within

@@ -13,7 +13,7 @@ use Rattle.fragments.specs.Held.{total, endOf, whole, Whole, is-whole, is-reach
 use Rattle.fragments.specs.Insertion.{insert, length-insert}
 use Rattle.laws.specs.Put.{put, length-put}
 use Rattle.laws.specs.Truth.{split, never-both, and-false}
-use Rattle.laws.specs.Within.{within, is-under, is-within}
+use Rattle.laws.specs.Within.{within, is-under, is-none}
 use Rattle.replies.specs.Checks.{judged, _when_, numbered, refused-by}
 use Rattle.replies.specs.Reply
 use Rattle.replies.specs.declared.Judged.the-variants.{Passed, Refused}
@@ -223,10 +223,8 @@ module _ (r : Receiver) (area p : List ℕ) where
         (λ n l d. rw d (left-by r area p (λ (m : ℕ). not (within 8 9 m)) (λ f. absurd (never-both w f)) (λ o. absurd (o long)) refl (λ s. refl) l))
         (λ t. rw (is-under 8 9 (received r area p .answer .reply) (omega (arith, reply-small r area p t))))
 
-    outside : 8 ≤ received r area p .answer .reply → received r area p .answer .reply ≤ 9 → ⊥
-    outside low high =
-        let n = received r area p .answer .reply in
-        never-both (is-within 8 9 n low high) (not-true (within 8 9 n) neither)
-
     pub replied : (received r area p .answer .reply ≡ Reply.not-well-formed → ⊥) × (received r area p .answer .reply ≡ Reply.area-not-room → ⊥)
-    replied = (λ e. outside (omega arith) (omega arith), λ e. outside (omega arith) (omega arith))
+    replied =
+        let n = received r area p .answer .reply in
+        let out = is-none 8 9 n (not-true (within 8 9 n) neither) in
+        (out 9 (omega arith), out 8 (omega arith))

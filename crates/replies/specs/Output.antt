@@ -42,10 +42,6 @@ abbrev pub answerOf : Decision → Written
 answerOf (refuse n) = refused n
 answerOf (write bytes) = succeeded (length bytes)
 
--- not the number of success
-abbrev pub notSuccess : ℕ → Bool
-notSuccess n = not (eqb n Reply.success)
-
 -- The outcomes of `Written::refusal` and of `Written::success`.
 abbrev pub IsRefusal : ℕ → Written → Type 0
 IsRefusal n w = w ≡ refused n
@@ -64,6 +60,9 @@ pub record Writes (short : ℕ) (decision : Decision) (before : List ℕ) (w : W
   pub output : after ≡ outputOf before (fitted short before decision)
 
 -- ---- laws
+
+abbrev pub notSuccess : ℕ → Bool
+notSuccess n = not (eqb n Reply.success)
 
 pub writes-determined : {short : ℕ} {d : Decision} {before : List ℕ} {w w′ : Written} {after after′ : List ℕ} → Writes short d before w after → Writes short d before w′ after′ → (w ≡ w′) × (after ≡ after′)
 writes-determined a b = (a .answer ∙ sym (b .answer), a .output ∙ sym (b .output))
@@ -97,30 +96,30 @@ refusal-leaves a refuses = by-outcome a
     (λ u. (ap (λ (x : Written). x .length) (u .answer), u .output))
     (λ t. absurd (refuses (ap (λ (x : Written). x .reply) (t .answer))))
 
+-- from a decision back to what the checks came to
+decided-refuse : (j : Judged) (bytes : List ℕ) {n : ℕ} → decided j bytes ≡ refuse n → j ≡ Refused n
+decided-refuse Passed bytes e = absurd (let z : _≡_ {A = ℕ} 0 1 = cc in omega arith)
+decided-refuse (Refused n) bytes e = cc
+
+decided-write : (j : Judged) (bytes : List ℕ) {written : List ℕ} → decided j bytes ≡ write written → (j ≡ Passed) × (bytes ≡ written)
+decided-write Passed bytes e = (refl, cc)
+decided-write (Refused n) bytes e = absurd (let z : _≡_ {A = ℕ} 0 1 = cc in omega arith)
+
 -- where checks decide
 module _ {short : ℕ} {before after : List ℕ} {w : Written} (checks : List Check) (bytes : List ℕ) (a : Writes short (decided (judged checks) bytes) before w after) where
-  decided-refuse : (j : Judged) {n : ℕ} → decided j bytes ≡ refuse n → j ≡ Refused n
-  decided-refuse Passed e = absurd (let z : _≡_ {A = ℕ} 0 1 = cc in omega arith)
-  decided-refuse (Refused n) e = cc
-
-  decided-write : (j : Judged) {written : List ℕ} → decided j bytes ≡ write written → (j ≡ Passed) × (bytes ≡ written)
-  decided-write Passed e = (refl, cc)
-  decided-write (Refused n) e = absurd (let z : _≡_ {A = ℕ} 0 1 = cc in omega arith)
-
   -- a test that each of their numbers passes, and that of a short output, is passed by the number of a refusal
   refused-with : (test : ℕ → Bool) → test short ≡ true → numbered test checks ≡ true → (u : Unwritten short (decided (judged checks) bytes) before w after) → test (u .number) ≡ true
-  refused-with test full all u = ⊎-elim (λ e. rw e full) (λ e. refused-by test checks all (decided-refuse (judged checks) e)) (u .why)
+  refused-with test full all u = ⊎-elim (λ e. rw e full) (λ e. refused-by test checks all (decided-refuse (judged checks) bytes e)) (u .why)
 
-  pub refusal-number : (test : ℕ → Bool) → test short ≡ true → numbered test checks ≡ true → (w .reply ≡ Reply.success → ⊥) → test (w .reply) ≡ true
-  refusal-number test full all refuses = by-outcome a
-      (λ u. rw (u .answer) (refused-with test full all u))
-      (λ t. absurd (refuses (ap (λ (x : Written). x .reply) (t .answer))))
+  -- and where that of success passes it too, by every reply
+  pub reply-by : (test : ℕ → Bool) → test Reply.success ≡ true → test short ≡ true → numbered test checks ≡ true → test (w .reply) ≡ true
+  reply-by test none full all = by-outcome a (λ u. rw (u .answer) (refused-with test full all u)) (λ t. rw (t .answer) none)
 
   -- where none of them is that of success, an answer of success says that all have passed, and that the bytes stand in front
   pub success-checked : notSuccess short ≡ true → numbered notSuccess checks ≡ true → w .reply ≡ Reply.success → (judged checks ≡ Passed) × (w .length ≡ length bytes) × (take (w .length) after ≡ bytes)
   success-checked full all success = by-outcome a
       (λ u. absurd (never-both (refused-with notSuccess full all u) (rw (sym (ap (λ (x : Written). x .reply) (u .answer)) ∙ success))))
-      (λ t. let d = decided-write (judged checks) (t .decision) in
+      (λ t. let d = decided-write (judged checks) bytes (t .decision) in
       let long : w .length ≡ length bytes = ap (λ (x : Written). x .length) (t .answer) ∙ ap length (sym (d .1)) in
       (d .0, long, rw (long, t .output, ← d .1) (take-append-seam bytes (drop (length bytes) before))))
 
