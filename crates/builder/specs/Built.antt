@@ -1,15 +1,14 @@
 -- What the builder makes of a whole picture. Assumes nothing.
 use Prim.Native.Nat.{ℕ, _≤_}
-use mathlib.Core.Bool.{true, not}
+use mathlib.Core.Bool.{true}
 use mathlib.Core.List.{List, [], _∷_, _++_, append-assoc}
 use mathlib.Core.Path.{_≡_, refl, _∙_}
-use native.Mathlib.Omega.{arith}
-use borrow.Author.Tests.{le-ltb, eq-eqb, not-true}
+use borrow.Author.Tests.{le-ltb, eq-eqb}
 use lib.ListN.{length, take, drop}
 use Rattle.head.specs.Head.{head}
 use Rattle.laws.specs.Truth.{same}
-use Rattle.laws.specs.Within.{within, is-none}
-use Rattle.replies.specs.Checks.{judged, start, passes, none-left}
+use Rattle.laws.specs.Within.{within}
+use Rattle.replies.specs.Checks.{judged, neither, neither-9-nor-8, start, passes, none-left}
 use Rattle.replies.specs.Output.{decided, succeeded, reply-by, success-checked}
 use Rattle.replies.specs.Reply
 use Rattle.replies.specs.declared.Judged.the-variants.{Passed}
@@ -45,11 +44,6 @@ module _ (r : Receiver) (area : List ℕ) {before after : List ℕ} {w : Written
     unfolding building judged
     only-whole = rw (well, eq-eqb (length area) (r .room) room)
 
-    neither : not (within 8 9 (w .reply)) ≡ true
-    unfolding within
-    neither = reply-by (wholeCheck r ∷ []) (fileOf r area) (rw only-whole at builds) (λ (n : ℕ). not (within 8 9 n)) refl refl refl
-
     pub replied : (w .reply ≡ Reply.not-well-formed → ⊥) × (w .reply ≡ Reply.area-not-room → ⊥)
-    replied =
-        let out = is-none 8 9 (w .reply) (not-true (within 8 9 (w .reply)) neither) in
-        (out 9 (omega arith), out 8 (omega arith))
+    unfolding within
+    replied = neither-9-nor-8 (reply-by (wholeCheck r ∷ []) (fileOf r area) (rw only-whole at builds) neither refl refl refl)

@@ -23,6 +23,7 @@ use Rattle.tables.specs.Quantiser.{lumaAt, chromaAt, zigzag, inZigzag, scale, m
 use Rattle.wire.specs.Kind.{restartsOf}
 use Rattle.wire.specs.Lawful.{isLawful}
 use Rattle.wire.specs.TableSource.{tableSource}
+use Rattle.wire.specs.Tables.{areFull}
 use Rattle.wire.specs.declared.Packet.{Packet}
 
 -- entry i of a Q's luma table, and of its chroma table
@@ -53,8 +54,8 @@ stamped time = record {
   scan = record { at = 20; length = 4 };
 }
 
-abbrev holding : ℕ → Receiver
-holding time = begun (fresh 1 65536) (stamped time)
+abbrev heldAt : ℕ → Receiver
+heldAt time = begun (fresh 1 65536) (stamped time)
 
 pub record BothSides : Type 0 where
   pub q-50-luma-0 : luma 50 0 ≡ 16
@@ -72,15 +73,17 @@ pub record BothSides : Type 0 where
   pub scan-173-packet-1 : judged (checks (plain 173) 192 1) ≡ Passed
   pub scan-173-packet-2 : judged (checks (plain 173) 192 2) ≡ Refused 45
   pub tables-in-the-first : cuts 192 (bringing 205) ≡ cut 0 36 0 ∷ cut 36 168 0 ∷ cut 204 1 1 ∷ []
+  pub tables-packet-2 : judged (checks (bringing 205) 192 2) ≡ Passed
+  pub tables-packet-3 : judged (checks (bringing 205) 192 3) ≡ Refused 45
   pub across-2^32 : isNewer 0 0xFFFFFFFF ≡ true
-  pub across-2^32-starts : starts (holding 0xFFFFFFFF) (stamped 0) ≡ true
+  pub across-2^32-starts : starts (heldAt 0xFFFFFFFF) (stamped 0) ≡ true
   pub half-way-less-1 : isNewer (2 ^ 31 - 1) 0 ≡ true
-  pub half-way-less-1-starts : starts (holding 0) (stamped (2 ^ 31 - 1)) ≡ true
+  pub half-way-less-1-starts : starts (heldAt 0) (stamped (2 ^ 31 - 1)) ≡ true
   pub half-way : isNewer (2 ^ 31) 0 ≡ false
-  pub half-way-past : verdict (holding 0) [] [] (stamped (2 ^ 31)) ≡ Refused 22
+  pub half-way-past : verdict (heldAt 0) [] [] (stamped (2 ^ 31)) ≡ Refused 22
 
 pub both-sides : BothSides
-unfolding lumaAt chromaAt zigzag inZigzag scale made scaled tablesOf cuts capacity restartHeader tableHeader spelled restartsOf tableSource within judged isLawful ahead pictureFor
+unfolding lumaAt chromaAt zigzag inZigzag scale made scaled tablesOf cuts capacity restartHeader tableHeader spelled restartsOf tableSource within judged isLawful areFull ahead pictureFor
 both-sides = record {
   q-50-luma-0 = refl;
   q-50-luma-2 = refl;
@@ -97,6 +100,8 @@ both-sides = record {
   scan-173-packet-1 = refl;
   scan-173-packet-2 = refl;
   tables-in-the-first = refl;
+  tables-packet-2 = refl;
+  tables-packet-3 = refl;
   across-2^32 = refl;
   across-2^32-starts = refl;
   half-way-less-1 = refl;

@@ -41,7 +41,7 @@ DeterminesBoth {A} {B} Contract = (x x′ : A) (y y′ : B) → Contract x y →
 abbrev pub DeterminesAll : {A B C : Type 0} → (A → B → C → Type 0) → Type 0
 DeterminesAll {A} {B} {C} Contract = (x x′ : A) (y y′ : B) (z z′ : C) → Contract x y z → Contract x′ y′ z′ → (x ≡ x′) × (y ≡ y′) × (z ≡ z′)
 
--- what equals one definition is one, and what is written so
+-- an outcome that has to equal a definition is determined, and so is that of a call that writes into an output
 only : {A : Type 0} {d : A} → Determines (λ (x : A). x ≡ d)
 only x x′ a b = a ∙ sym b
 

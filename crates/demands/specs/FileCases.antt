@@ -21,7 +21,7 @@ headOf kind interval = head (frame kind interval) (tablesOf 50)
 abbrev transcriptWith : List ℕ → List ℕ
 transcriptWith scan = file (frame 1 0) (tablesOf 50) scan
 
--- the sampling byte of luma in a head, behind SOI, two DQT and the first 11 bytes of SOF0
+-- the sampling byte of luma in a head, behind SOI, two DQT, DRI if there is one, and the first 11 bytes of SOF0
 abbrev sampling : ℕ → ℕ → List ℕ
 sampling kind interval = take 1 (drop (2 + 138 + length (restarts interval) + 11) (headOf kind interval))
 

@@ -1,14 +1,16 @@
 -- A history of calls, a packet each. Assumes nothing.
-use Prim.Native.Nat.{ℕ}
-use mathlib.Core.List.{List, [], _∷_}
+use Prim.Native.Nat.{ℕ, _<_}
+use mathlib.Core.Bool.{Bool, true, false, cond}
+use mathlib.Core.List.{List, [], _∷_, _++_}
 use mathlib.Core.Path.{_≡_, refl, sym, ap, ap₂, _∙_}
-use lib.ListN.{length}
-use Rattle.laws.specs.Each.{Each}
+use lib.Dec.{eqb, ltb}
+use lib.ListN.{length, take, drop}
+use Rattle.laws.specs.Each.{Each, each-take, each-drop}
 use Rattle.laws.specs.Within.{Between}
 use Rattle.receiver.specs.Step.{received, areaAfter, Receives}
 use Rattle.receiver.specs.declared.Received.{Received}
 use Rattle.records.specs.Framing as Framing
-use Rattle.records.specs.Framing.{Front, front}
+use Rattle.records.specs.Framing.{Front, front, packetLength, recordLength}
 use Rattle.records.specs.Taking.{Takes, takenBy, areaBy}
 use Rattle.records.specs.declared.Next.{Next}
 use Rattle.records.specs.declared.Next.the-variants.{End, Cut, Answered}
@@ -30,26 +32,27 @@ abbrev pub state : Receiver → List ℕ → State
 state receiver area = record { receiver = receiver; area = area }
 
 -- Calls of `receiver::receive` or of `ljosvark::lj_receive`, a packet each and an answer to each: every call meets its contract, and is
--- handed receiver and area as the last one left them.
+-- handed receiver and area as the last one left them. Other calls may stand between them: but for `records::take`, of which below,
+-- none takes a receiver or its area to change it.
 abbrev pub Calls : State → List (List ℕ) → List Answer → State → Type 0
 Calls x [] [] y = x ≡ y
-Calls x [] (a ∷ given) y = ⊥
+Calls x [] (a ∷ answered) y = ⊥
 Calls x (p ∷ packets) [] y = ⊥
-Calls x (p ∷ packets) (a ∷ given) y =
+Calls x (p ∷ packets) (a ∷ answered) y =
     (z : State)
     × Receives (x .receiver) (x .area) p (record { answer = a; receiver = z .receiver }) (z .area)
-    × Calls z packets given y
+    × Calls z packets answered y
 
 -- "Take a receiver we opened and a scan area as long as its room, after any history of calls, every call handed both as the last one
 -- left them." Opened means with reply 0; a packet is a list of bytes, of any length; and x is what the history leaves.
-pub record History (source room : ℕ) (packets : List (List ℕ)) (given : List Answer) (x : State) : Type 0 where
+pub record History (source room : ℕ) (packets : List (List ℕ)) (answered : List Answer) (x : State) : Type 0 where
   pub opened : Opened
   pub opens : Opens source room opened
   pub with-reply-0 : opened .answer .reply ≡ Reply.success
   pub area : List ℕ
   pub as-long-as-the-room : length area ≡ room
   pub bytes : Each Bytes packets
-  pub calls : Calls (state (opened .receiver) area) packets given x
+  pub calls : Calls (state (opened .receiver) area) packets answered x
 
 -- Accepted is reply 0 or 1; any other is a refusal, or again.
 abbrev pub NotAccepted : Answer → Type 0
@@ -83,13 +86,13 @@ step x p = let d = received (x .receiver) (x .area) p in outcome (d .answer) (st
 is-step : (x : State) (p : List ℕ) (a : Answer) (z : State) → Receives (x .receiver) (x .area) p (record { answer = a; receiver = z .receiver }) (z .area) → outcome a z ≡ step x p
 is-step x p a z met = ap₂ (λ (d : Received) (area : List ℕ). outcome (d .answer) (state (d .receiver) area)) (met .answer) (met .lent)
 
-pub calls-step : (x : State) (packets : List (List ℕ)) (given : List Answer) (y : State) → Calls x packets given y → (given ≡ answers step x packets) × (y ≡ after step x packets)
+pub calls-step : (x : State) (packets : List (List ℕ)) (answered : List Answer) (y : State) → Calls x packets answered y → (answered ≡ answers step x packets) × (y ≡ after step x packets)
 calls-step x [] [] y c = (refl, sym c)
-calls-step x [] (a ∷ given) y c = absurd c
+calls-step x [] (a ∷ answered) y c = absurd c
 calls-step x (p ∷ packets) [] y c = absurd c
-calls-step x (p ∷ packets) (a ∷ given) y c =
+calls-step x (p ∷ packets) (a ∷ answered) y c =
     let one = is-step x p a (c .0) (c .1) in
-    let rest = calls-step (c .0) packets given y (c .2) in (
+    let rest = calls-step (c .0) packets answered y (c .2) in (
       ap (λ (l : List Answer). a ∷ l) (rest .0) ∙ ap (λ (o : Outcome State). o .answer ∷ answers step (o .left) packets) one,
       rest .1 ∙ ap (λ (o : Outcome State). after step (o .left) packets) one,
     )
@@ -98,7 +101,15 @@ step-calls : (x : State) (packets : List (List ℕ)) → Calls x packets (answer
 step-calls x [] = refl
 step-calls x (p ∷ packets) = (step x p .left, record { answer = refl; lent = refl }, step-calls (step x p .left) packets)
 
--- A call of `records::take` is a call with the packet of a complete record, and none at the end of a stream and in a cut record.
+-- calls, and calls that go on from there
+pub calls-append : (x : State) (packets : List (List ℕ)) (answered : List Answer) (y : State) (more : List (List ℕ)) (answered′ : List Answer) (z : State) → Calls x packets answered y → Calls y more answered′ z → Calls x (packets ++ more) (answered ++ answered′) z
+calls-append x [] [] y more answered′ z c d = rw c d
+calls-append x [] (a ∷ answered) y more answered′ z c d = absurd c
+calls-append x (p ∷ packets) [] y more answered′ z c d = absurd c
+calls-append x (p ∷ packets) (a ∷ answered) y more answered′ z c d = (c .0, c .1, calls-append (c .0) packets answered y more answered′ z (c .2) d)
+
+-- A call of `records::take` is a call with the packet of a complete record, and none at the end of a stream and in a cut record. The
+-- packet is made of bytes where the stream is.
 abbrev pub packetIn : Front → List (List ℕ)
 packetIn Framing.Front.nothing = []
 packetIn Framing.Front.cut = []
@@ -117,7 +128,19 @@ take-calls r area bytes t after met = rw (met .taken, met .lent) (go (front byte
     go Framing.Front.cut = refl
     go (Framing.Front.packet p) = step-calls (state r area) (p ∷ [])
 
--- There is one for any source, any room of 1 to 65,536, any area of that length, and any packets of any bytes.
+pub packet-bytes : (bytes : List ℕ) → Bytes bytes → Each Bytes (packetIn (front bytes))
+unfolding front
+packet-bytes bytes b = go (eqb (length bytes) 0) (ltb (length bytes) (recordLength bytes))
+  where
+    packet : List ℕ
+    packet = take (packetLength bytes) (drop 2 bytes)
+
+    go : (ended short : Bool) → Each Bytes (packetIn (cond ended Framing.Front.nothing (cond short Framing.Front.cut (Framing.Front.packet packet))))
+    go true short = tt
+    go false true = tt
+    go false false = (each-take (λ (v : ℕ). v < 256) (packetLength bytes) (drop 2 bytes) (each-drop (λ (v : ℕ). v < 256) 2 bytes b), tt)
+
+-- There is a history for any source, any room of 1 to 65,536, any area of that length, and any packets of any bytes.
 module _ (source room : ℕ) (area : List ℕ) (packets : List (List ℕ)) where
   pub history : Between 1 65536 room → length area ≡ room → Each Bytes packets → History source room packets (answers step (state (fresh source room) area) packets) (after step (state (fresh source room) area) packets)
   history range long bytes = record {

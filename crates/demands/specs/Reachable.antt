@@ -18,14 +18,14 @@ use Rattle.state.specs.declared.Opened.{Opened}
 use Rattle.wire.specs.Field.{Bytes}
 use Rattle.demands.specs.History.{State, state, History, step, after, answers, calls-step}
 
--- The state of a receiver of that source and room, and the answers that were given up to it.
-pub record Reached (source room : ℕ) (given : List Answer) (x : State) : Type 0 where
+-- What holds of the answers up to a state, and of the state, which is that of a receiver opened with this source and room.
+pub record Reached (source room : ℕ) (answered : List Answer) (x : State) : Type 0 where
   pub source-stays : x .receiver .source ≡ source
   pub room-stays : x .receiver .room ≡ room
   pub well-formed : wellFormed (x .receiver) ≡ true
   pub as-long-as-the-room : length (x .area) ≡ room
-  pub never-9 : Each (λ (a : Answer). a .reply ≡ Reply.not-well-formed → ⊥) given
-  pub never-8 : Each (λ (a : Answer). a .reply ≡ Reply.area-not-room → ⊥) given
+  pub never-9 : Each (λ (a : Answer). a .reply ≡ Reply.not-well-formed → ⊥) answered
+  pub never-8 : Each (λ (a : Answer). a .reply ≡ Reply.area-not-room → ⊥) answered
 
 -- From any well-formed receiver with an area as long as its room, opened just now or not.
 pub stays : (x : State) (packets : List (List ℕ)) → wellFormed (x .receiver) ≡ true → length (x .area) ≡ x .receiver .room → Each Bytes packets → Reached (x .receiver .source) (x .receiver .room) (answers step x packets) (after step x packets)
@@ -47,15 +47,15 @@ stays x (p ∷ packets) well long bytes =
     }
 
 -- After any history the receiver is well formed and the area as long as the room, and neither 9 nor 8 was ever answered;
-pub reachable : (source room : ℕ) (packets : List (List ℕ)) (given : List Answer) (x : State) → History source room packets given x → Reached source room given x
-reachable source room packets given x h =
-    let range = opened-room source room (rw (h .opens) at (h .with-reply-0)) in
+pub reachable : (source room : ℕ) (packets : List (List ℕ)) (answered : List Answer) (x : State) → History source room packets answered x → Reached source room answered x
+reachable source room packets answered x h =
+    let range = opened-room source room (sym (ap (λ (o : Opened). o .answer .reply) (h .opens)) ∙ h .with-reply-0) in
     let new : h .opened .receiver ≡ fresh source room = ap (λ (o : Opened). o .receiver) (h .opens ∙ opens source room range) in
-    let left = calls-step (state (h .opened .receiver) (h .area)) packets given x (h .calls) in
+    let left = calls-step (state (h .opened .receiver) (h .area)) packets answered x (h .calls) in
     rw (left .0, left .1, new) (stays (state (fresh source room) (h .area)) packets (fresh-well-formed source room range) (h .as-long-as-the-room) (h .bytes))
 
--- nor is it by the builder then.
-pub builds : (source room : ℕ) (packets : List (List ℕ)) (given : List Answer) (x : State) (before : List ℕ) (w : Written) (after : List ℕ) → History source room packets given x → Builds (x .receiver) (x .area) before w after → (w .reply ≡ Reply.not-well-formed → ⊥) × (w .reply ≡ Reply.area-not-room → ⊥)
-builds source room packets given x before w after h met =
-    let r = reachable source room packets given x h in
+-- and the builder answers neither of them then.
+pub builds : (source room : ℕ) (packets : List (List ℕ)) (answered : List Answer) (x : State) (before : List ℕ) (w : Written) (after : List ℕ) → History source room packets answered x → Builds (x .receiver) (x .area) before w after → (w .reply ≡ Reply.not-well-formed → ⊥) × (w .reply ≡ Reply.area-not-room → ⊥)
+builds source room packets answered x before w after h met =
+    let r = reachable source room packets answered x h in
     built-replied (x .receiver) (x .area) met (r .well-formed) (r .as-long-as-the-room ∙ sym (r .room-stays))

@@ -60,6 +60,10 @@ ofReader = 10 ∷ 11 ∷ 12 ∷ 13 ∷ 14 ∷ 15 ∷ 16 ∷ 17 ∷ 18 ∷ 19 ∷
 abbrev pub ofReceiver : List ℕ
 ofReceiver = 8 ∷ 9 ∷ (ofReader ++ (22 ∷ 23 ∷ 24 ∷ 25 ∷ 26 ∷ 27 ∷ []))
 
+-- The replies with which the receiver changes nothing.
+abbrev pub unchanging : List ℕ
+unchanging = Reply.again ∷ ofReceiver
+
 abbrev pub isOneOf : List ℕ → ℕ → Bool
 isOneOf numbers n = any (eqb n) numbers
 
@@ -105,20 +109,20 @@ opens source room o a refuses = split (isRoom room)
     (λ e. a ∙ opens-not source room e)
 
 -- A call of the receiver that changes nothing: its reply, how many scan bytes are held as before, and what it gives back.
-pub record Unchanged (numbers : List ℕ) (r : Receiver) (area : List ℕ) (d : Received) (after : List ℕ) : Type 0 where
-  pub number : isOneOf numbers (d .answer .reply) ≡ true
+pub record Unchanged (r : Receiver) (area : List ℕ) (d : Received) (after : List ℕ) : Type 0 where
+  pub number : isOneOf unchanging (d .answer .reply) ≡ true
   pub count : d .answer .held ≡ held r
   pub receiver-handed-back : d .receiver ≡ r
   pub area-as-it-was : after ≡ area
 
 -- `receiver::receive` and `ljosvark::lj_receive`: any reply but held and whole is again or a refusal
-pub receive : (r : Receiver) (area p : List ℕ) (d : Received) (after : List ℕ) → Receives r area p d after → NotAccepted (d .answer) → Unchanged (Reply.again ∷ ofReceiver) r area d after
+pub receive : (r : Receiver) (area p : List ℕ) (d : Received) (after : List ℕ) → Receives r area p d after → NotAccepted (d .answer) → Unchanged r area d after
 receive r area p d after a not = by-decision r area p
     (λ n l decided.
     let left = when-left r area p decided in
     let given = a .answer ∙ left .0 in
     record {
-      number = rw given (left-by r area p (isOneOf (Reply.again ∷ ofReceiver)) (λ w. refl) (λ o. refl) refl (λ s. refl) l);
+      number = rw given (left-by r area p (isOneOf unchanging) (λ w. refl) (λ o. refl) refl (λ s. refl) l);
       count = rw given;
       receiver-handed-back = rw given;
       area-as-it-was = a .lent ∙ left .1;
@@ -131,14 +135,14 @@ receive r area p d after a not = by-decision r area p
         (λ e. not .1 (let some = eqb-false (d .answer .reply) 0 e in omega arith))
 
 -- So calls of which none is answered with held or whole leave receiver and area as they were, however many they are,
-pub calls-unchanged : (x : State) (packets : List (List ℕ)) (given : List Answer) (y : State) → Calls x packets given y → Each NotAccepted given → y ≡ x
+pub calls-unchanged : (x : State) (packets : List (List ℕ)) (answered : List Answer) (y : State) → Calls x packets answered y → Each NotAccepted answered → y ≡ x
 calls-unchanged x [] [] y c none = sym c
-calls-unchanged x [] (a ∷ given) y c none = absurd c
+calls-unchanged x [] (a ∷ answered) y c none = absurd c
 calls-unchanged x (p ∷ packets) [] y c none = absurd c
-calls-unchanged x (p ∷ packets) (a ∷ given) y c none =
+calls-unchanged x (p ∷ packets) (a ∷ answered) y c none =
     let z = c .0 in
     let u = receive (x .receiver) (x .area) p (record { answer = a; receiver = z .receiver }) (z .area) (c .1) (none .0) in
-    calls-unchanged z packets given y (c .2) (none .1) ∙ ap₂ state (u .receiver-handed-back) (u .area-as-it-was)
+    calls-unchanged z packets answered y (c .2) (none .1) ∙ ap₂ state (u .receiver-handed-back) (u .area-as-it-was)
 
 -- and so does `records::take` at the end of a stream, in a cut record, and with a packet that is not accepted.
 pub take-record : (r : Receiver) (area bytes : List ℕ) (t : Taken) (after : List ℕ) → Takes r area bytes t after → Each NotAccepted (answerIn (t .came)) → (t .receiver ≡ r) × (after ≡ area)

@@ -1,10 +1,10 @@
 -- What holds of every step. Assumes nothing.
 use Prim.Native.Nat.{ℕ, _≤_, _<_}
-use mathlib.Core.Bool.{Bool, true, false, not}
+use mathlib.Core.Bool.{Bool, true, false}
 use mathlib.Core.List.{List, [], _∷_}
 use mathlib.Core.Path.{_≡_, refl, ap, _∙_}
 use native.Mathlib.Omega.{arith}
-use borrow.Author.Tests.{leb-true, eqb-true, eqb-false, eq-eqb, ne-eqb, not-true}
+use borrow.Author.Tests.{leb-true, eqb-true, eqb-false, eq-eqb, ne-eqb}
 use lib.Dec.{eqb, leb}
 use lib.ListN.{length}
 use Rattle.fragments.specs.Array.{held-padded, unused-padded}
@@ -13,8 +13,8 @@ use Rattle.fragments.specs.Held.{total, endOf, whole, Whole, is-whole, is-reach
 use Rattle.fragments.specs.Insertion.{insert, length-insert}
 use Rattle.laws.specs.Put.{put, length-put}
 use Rattle.laws.specs.Truth.{split, never-both, and-false}
-use Rattle.laws.specs.Within.{within, is-under, is-none}
-use Rattle.replies.specs.Checks.{judged, _when_, numbered, refused-by}
+use Rattle.laws.specs.Within.{within, is-under}
+use Rattle.replies.specs.Checks.{judged, _when_, neither, neither-9-nor-8, numbered, refused-by}
 use Rattle.replies.specs.Reply
 use Rattle.replies.specs.declared.Judged.the-variants.{Passed, Refused}
 use Rattle.replies.specs.declared.Judged.{Judged}
@@ -41,7 +41,7 @@ pub data Left (r : Receiver) (area p : List ℕ) (n : ℕ) : Type 0 where
   ill-formed : wellFormed r ≡ false → n ≡ Reply.not-well-formed → Left r area p n
   other-area : (length area ≡ r .room → ⊥) → n ≡ Reply.area-not-room → Left r area p n
   unread : reading (r .source) p ≡ Answer.Refused n → Left r area p n
-  ruled-out : (s : Packet) → verdict r area p s ≡ Refused n → Left r area p n
+  ruled-out : (s : Packet) → reading (r .source) p ≡ Answer.Said s → verdict r area p s ≡ Refused n → Left r area p n
 
 -- A packet that is taken, and what is known of it.
 pub record Taken (r : Receiver) (area p : List ℕ) : Type 0 where
@@ -71,7 +71,7 @@ module _ (r : Receiver) (area p : List ℕ) where
         accepted = accepted (pictureFor r s) area p s v;
         decided = rw (w, l, e, v);
       })
-      by-verdict w l s e (Refused n) v = leaves n (ruled-out s v) (rw (w, l, e, v))
+      by-verdict w l s e (Refused n) v = leaves n (ruled-out s e v) (rw (w, l, e, v))
 
       by-reading : wellFormed r ≡ true → eqb (length area) (r .room) ≡ true → (a : Reading) → reading (r .source) p ≡ a → P
       by-reading w l (Answer.Refused n) e = leaves n (unread e) (rw (w, l, e))
@@ -82,7 +82,7 @@ module _ (r : Receiver) (area p : List ℕ) where
   left-by test formed room read ruled (ill-formed w e) = rw e (formed w)
   left-by test formed room read ruled (other-area l e) = rw e (room l)
   left-by test formed room read ruled (unread e) = read-refused (r .source) p test read e
-  left-by test formed room read ruled (ruled-out s v) = refused-by test (checks (pictureFor r s) area p s) (ruled s) v
+  left-by test formed room read ruled (ruled-out s e v) = refused-by test (checks (pictureFor r s) area p s) (ruled s) v
 
   left-number : {n : ℕ} → Left r area p n → 2 ≤ n
   left-number {n} l = leb-true 2 n (left-by (leb 2) (λ w. refl) (λ o. refl) refl (λ s. refl) l)
@@ -217,14 +217,11 @@ module _ (r : Receiver) (area p : List ℕ) where
 
   -- 9 and 8 are answered to nothing else
   module _ (w : wellFormed r ≡ true) (long : length area ≡ r .room) where
-    neither : not (within 8 9 (received r area p .answer .reply)) ≡ true
+    other : neither (received r area p .answer .reply) ≡ true
     unfolding received within
-    neither = by-decision r area p
-        (λ n l d. rw d (left-by r area p (λ (m : ℕ). not (within 8 9 m)) (λ f. absurd (never-both w f)) (λ o. absurd (o long)) refl (λ s. refl) l))
+    other = by-decision r area p
+        (λ n l d. rw d (left-by r area p neither (λ f. absurd (never-both w f)) (λ o. absurd (o long)) refl (λ s. refl) l))
         (λ t. rw (is-under 8 9 (received r area p .answer .reply) (omega (arith, reply-small r area p t))))
 
     pub replied : (received r area p .answer .reply ≡ Reply.not-well-formed → ⊥) × (received r area p .answer .reply ≡ Reply.area-not-room → ⊥)
-    replied =
-        let n = received r area p .answer .reply in
-        let out = is-none 8 9 n (not-true (within 8 9 n) neither) in
-        (out 9 (omega arith), out 8 (omega arith))
+    replied = neither-9-nor-8 other

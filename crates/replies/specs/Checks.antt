@@ -1,13 +1,16 @@
 -- Checks in order: the first that fails gives the reply. Assumes nothing.
 use Prim.Native.Nat.{ℕ}
-use mathlib.Core.Bool.{Bool, true, false}
+use mathlib.Core.Bool.{Bool, true, false, not}
 use mathlib.Core.List.{List, [], _∷_, _++_}
 use mathlib.Core.Path.{_≡_, refl, sym, _∙_}
-use lib.ListN.{drop}
 use native.Mathlib.Omega.{arith}
+use borrow.Author.Tests.{not-true}
+use lib.ListN.{drop}
 use Rattle.laws.specs.All.{all}
 use Rattle.laws.specs.Each.{Each}
 use Rattle.laws.specs.Truth.{and-true}
+use Rattle.laws.specs.Within.{within, is-none}
+use Rattle.replies.specs.Reply
 use Rattle.replies.specs.declared.Judged.{Judged}
 use Rattle.replies.specs.declared.Judged.the-variants.{Passed, Refused}
 
@@ -23,6 +26,13 @@ judged ((n when true) ∷ checks) = Refused n
 judged ((n when false) ∷ checks) = judged checks
 
 -- ---- laws
+
+-- a number other than 9 and 8, which a call gives for the receiver and the area that it is handed
+abbrev pub neither : ℕ → Bool
+neither n = not (within 8 9 n)
+
+pub neither-9-nor-8 : {n : ℕ} → neither n ≡ true → (n ≡ Reply.not-well-formed → ⊥) × (n ≡ Reply.area-not-room → ⊥)
+neither-9-nor-8 {n} e = let out = is-none 8 9 n (not-true (within 8 9 n) e) in (out 9 (omega arith), out 8 (omega arith))
 
 -- all that is left to judge of some checks, since those in front have passed
 pub record Past (checks left : List Check) : Type 0 where

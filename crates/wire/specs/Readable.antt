@@ -65,11 +65,11 @@ read-passes source p s e =
     let both = both-passed (rtpChecks source p) (jpegChecks (payload p)) (t .0) in
     record { rtp = rtp-passed source p (both .0); jpeg = jpeg-passed (payload p) (both .1); says = t .1 }
 
--- a test that the number of each check passes is passed by the number of a refusal
 refused : (j : Judged) (t : Packet) {n : ℕ} → answered j t ≡ Answer.Refused n → j ≡ Refused n
 refused Passed t e = absurd (let z : _≡_ {A = ℕ} 0 1 = cc in omega arith)
 refused (Refused m) t e = cc
 
+-- a test that the number of each check passes is passed by the number of a refusal
 pub read-refused : (source : ℕ) (p : List ℕ) (test : ℕ → Bool) {n : ℕ} → numbered test (checks source p) ≡ true → reading source p ≡ Answer.Refused n → test n ≡ true
 unfolding reading
 read-refused source p test a e = refused-by test (checks source p) a (refused (judged (checks source p)) (said p) e)
