@@ -1,16 +1,14 @@
 -- A history of calls, a packet each. Assumes nothing.
 use Prim.Native.Nat.{ℕ, _<_}
-use mathlib.Core.Bool.{Bool, true, false, cond}
 use mathlib.Core.List.{List, [], _∷_, _++_}
 use mathlib.Core.Path.{_≡_, refl, sym, ap, ap₂, _∙_}
-use lib.Dec.{eqb, ltb}
-use lib.ListN.{length, take, drop}
+use lib.ListN.{length, drop}
 use Rattle.laws.specs.Each.{Each, each-take, each-drop}
 use Rattle.laws.specs.Within.{Between}
 use Rattle.receiver.specs.Step.{received, areaAfter, Receives}
 use Rattle.receiver.specs.declared.Received.{Received}
 use Rattle.records.specs.Framing as Framing
-use Rattle.records.specs.Framing.{Front, front, packetLength, recordLength}
+use Rattle.records.specs.Framing.{Front, front, packetLength, by-front}
 use Rattle.records.specs.Taking.{Takes, takenBy, areaBy}
 use Rattle.records.specs.declared.Next.{Next}
 use Rattle.records.specs.declared.Next.the-variants.{End, Cut, Answered}
@@ -58,8 +56,6 @@ pub record History (source room : ℕ) (packets : List (List ℕ)) (answered : L
 abbrev pub NotAccepted : Answer → Type 0
 NotAccepted a = (a .reply ≡ Reply.held → ⊥) × (a .reply ≡ Reply.whole → ⊥)
 
--- ---- laws
-
 -- What a call gives: an answer, and what it leaves for the next one.
 pub record Outcome (S : Type 0) : Type 0 where
   pub answer : Answer
@@ -81,6 +77,8 @@ module _ {S : Type 0} (step : S → List ℕ → Outcome S) where
 -- The receiver's step.
 abbrev pub step : State → List ℕ → Outcome State
 step x p = let d = received (x .receiver) (x .area) p in outcome (d .answer) (state (d .receiver) (areaAfter (x .receiver) (x .area) p))
+
+-- ---- laws
 
 -- a call that meets its contract is a step, and so a history is what the step makes of its packets
 is-step : (x : State) (p : List ℕ) (a : Answer) (z : State) → Receives (x .receiver) (x .area) p (record { answer = a; receiver = z .receiver }) (z .area) → outcome a z ≡ step x p
@@ -129,16 +127,7 @@ take-calls r area bytes t after met = rw (met .taken, met .lent) (go (front byte
     go (Framing.Front.packet p) = step-calls (state r area) (p ∷ [])
 
 pub packet-bytes : (bytes : List ℕ) → Bytes bytes → Each Bytes (packetIn (front bytes))
-unfolding front
-packet-bytes bytes b = go (eqb (length bytes) 0) (ltb (length bytes) (recordLength bytes))
-  where
-    packet : List ℕ
-    packet = take (packetLength bytes) (drop 2 bytes)
-
-    go : (ended short : Bool) → Each Bytes (packetIn (cond ended Framing.Front.nothing (cond short Framing.Front.cut (Framing.Front.packet packet))))
-    go true short = tt
-    go false true = tt
-    go false false = (each-take (λ (v : ℕ). v < 256) (packetLength bytes) (drop 2 bytes) (each-drop (λ (v : ℕ). v < 256) 2 bytes b), tt)
+packet-bytes bytes b = by-front bytes (λ (f : Front). Each Bytes (packetIn f)) tt tt (each-take (λ (v : ℕ). v < 256) (packetLength bytes) (drop 2 bytes) (each-drop (λ (v : ℕ). v < 256) 2 bytes b), tt)
 
 -- There is a history for any source, any room of 1 to 65,536, any area of that length, and any packets of any bytes.
 module _ (source room : ℕ) (area : List ℕ) (packets : List (List ℕ)) where

@@ -50,6 +50,16 @@ module _ (bytes : List ℕ) where
       least true = omega arith
       least false = omega arith
 
+  -- what holds of no record, of a cut one and of a complete one holds of what a stream begins with
+  pub by-front : (P : Front → Type 0) → P nothing → P cut → P (packet (take (packetLength bytes) (drop 2 bytes))) → P (front bytes)
+  unfolding front
+  by-front P none short whole = go (eqb (length bytes) 0) (ltb (length bytes) (recordLength bytes))
+    where
+      go : (ended lacking : Bool) → P (cond ended nothing (cond lacking cut (packet (take (packetLength bytes) (drop 2 bytes)))))
+      go true lacking = none
+      go false true = short
+      go false false = whole
+
   pub front-nothing : length bytes ≡ 0 → front bytes ≡ nothing
   unfolding front
   front-nothing h = rw (eq-eqb (length bytes) 0 h)
