@@ -34,7 +34,7 @@ abbrev chroma : ℕ → ℕ → ℕ
 chroma q i = getD (tablesOf q) (64 + i) 0
 
 -- a picture of type 0 and Q 50, and one of type 65 and Q 255 with its tables, each with a scan of n bytes
-abbrev plain : ℕ → Picture
+abbrev pub plain : ℕ → Picture
 plain n = picture (record { kind = 0; q = 50; width = 2; height = 2; interval = 0 }) [] (replicate n 170)
 
 abbrev bringing : ℕ → Picture

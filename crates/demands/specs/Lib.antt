@@ -5,3 +5,14 @@ pub mod Transcript
 pub mod BothSides
 pub mod Determined
 pub mod FileCases
+pub mod Sets
+pub mod Delivery
+pub mod Arrivals
+pub mod CutsIn
+pub mod Filled
+pub mod Says
+pub mod Arrived
+pub mod Whole
+pub mod FirstToCome
+pub mod Demand3
+pub mod TwoPackets

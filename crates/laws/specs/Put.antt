@@ -1,13 +1,17 @@
 -- Bytes put at a place of a list, over those that stand there. Assumes nothing.
-use Prim.Native.Nat.{ℕ, zero, suc, _+_, _≤_, _<_}
+use Prim.Native.Nat.{ℕ, zero, suc, _+_, _-_, _≤_, _<_}
+use mathlib.Core.Bool.{cond, _&&_}
 use mathlib.Core.List.{List, [], _∷_, _++_, append-assoc}
 use mathlib.Core.Path.{_≡_, sym, ap, _∙_}
-use native.Mathlib.Nat.{add-zero, zero-add, suc-add}
+use native.Mathlib.Nat.{add-zero, zero-add, suc-add, add-sub-of-le}
 use native.Mathlib.Numerals.{add-one}
 use native.Mathlib.Omega.{arith}
-use lib.ListN.{length, getD, take, drop, set, length-append, length-take, length-drop, take-append-drop}
-use lib.Seq.{set-split, take-append-seam, drop-append-add, drop-drop, length-take-le}
+use borrow.Author.Tests.{ltb-true, ltb-false, leb-true, leb-false}
+use lib.Dec.{ltb, leb}
+use lib.ListN.{length, getD, take, drop, set, length-append, length-take, length-drop, take-append-drop, List·getD-append}
+use lib.Seq.{set-split, take-append-seam, drop-append-add, drop-drop, length-take-le, getD-append-add, getD-take, getD-drop}
 use Rattle.laws.specs.Lists.{fill-more}
+use Rattle.laws.specs.Truth.{split}
 
 abbrev pub put : List ℕ → ℕ → List ℕ → List ℕ
 put l at bytes = take at l ++ (bytes ++ drop (at + length bytes) l)
@@ -25,6 +29,24 @@ pub record PutsUpTo (before : List ℕ) (at : ℕ) (bytes after : List ℕ) (beh
 
 pub length-put : (l : List ℕ) (at : ℕ) (bytes : List ℕ) → at + length bytes ≤ length l → length (put l at bytes) ≡ length l
 length-put l at bytes h = simp (length-append, length-take, length-drop) (omega arith)
+
+-- a byte of it afterwards
+getD-behind : (l m : List ℕ) (i : ℕ) → length l ≤ i → getD (l ++ m) i 0 ≡ getD m (i - length l) 0
+getD-behind l m i h = ap (λ (j : ℕ). getD (l ++ m) j 0) (sym (add-sub-of-le h)) ∙ getD-append-add l m (i - length l) 0
+
+pub getD-put : (l : List ℕ) (at : ℕ) (bytes : List ℕ) → at + length bytes ≤ length l → (i : ℕ) → getD (put l at bytes) i 0 ≡ cond (leb at i && ltb i (at + length bytes)) (getD bytes (i - at) 0) (getD l i 0)
+getD-put l at bytes fits i = split (leb at i)
+    (λ a. let a′ = leb-true at i a in
+    rw (getD-behind (take at l) (bytes ++ drop (at + length bytes) l) i (rw front a′), front, a)
+    (split (ltb i (at + length bytes))
+    (λ b. rw (b, List·getD-append bytes (drop (at + length bytes) l) 0 (i - at) (omega (arith, ltb-true i (at + length bytes) b))))
+    (λ b. let b′ = ltb-false i (at + length bytes) b in
+    rw (b, getD-behind bytes (drop (at + length bytes) l) (i - at) (omega arith), getD-drop) (ap (λ (j : ℕ). getD l j 0) (omega arith)))))
+    (λ a. let a′ = leb-false at i a in
+    rw (a, List·getD-append (take at l) (bytes ++ drop (at + length bytes) l) 0 i (rw front a′), getD-take))
+  where
+    front : length (take at l) ≡ at
+    front = length-take-le at l (omega arith)
 
 put-front : (l bytes : List ℕ) → put l 0 bytes ≡ bytes ++ drop (length bytes) l
 put-front l bytes = rw (zero-add (length bytes))

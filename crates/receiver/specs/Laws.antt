@@ -34,7 +34,7 @@ use Rattle.receiver.specs.Picture.{starts, pictureFor, picture-begun, pi
 use Rattle.receiver.specs.Step.Decision.{leave, accept}
 use Rattle.receiver.specs.Step.{decision, judgedRead, taken, held, answering, tookIn, received, areaAfter}
 use Rattle.receiver.specs.Time.{not-behind}
-use Rattle.receiver.specs.Verdict.{fragmentOf, isUnlike, isBeyond, checks, verdict, Accepted, accepted}
+use Rattle.receiver.specs.Verdict.{fragmentOf, isBeyond, checks, verdict, Accepted, accepted, like-itself}
 
 -- Why a call leaves all as it is, and with which reply: 9, 8, the reader's, or the verdict on what was read.
 pub data Left (r : Receiver) (area p : List ℕ) (n : ℕ) : Type 0 where
@@ -146,19 +146,9 @@ module _ (r : Receiver) (area p : List ℕ) where
 
 -- "For a packet that starts a picture, 23, 2, 25 and 26 cannot arise."
 pub starting : (r : Receiver) (area p : List ℕ) (s : Packet) → starts r s ≡ true → verdict r area p s ≡ judged (Reply.beyond when isBeyond r s ∷ Reply.bare when isBare (r .kept) s ∷ [])
-unfolding judged isUnlike clashes
+unfolding judged clashes
 starting r area p s e =
-    let h = s .header in
-    rw (
-      picture-begun r s e,
-      not-behind (s .time),
-      eq-eqb (h .kind) (h .kind) refl,
-      eq-eqb (h .q) (h .q) refl,
-      eq-eqb (h .width) (h .width) refl,
-      eq-eqb (h .height) (h .height) refl,
-      eq-eqb (h .interval) (h .interval) refl,
-      and-false (isMarked (fragmentOf s)),
-    )
+    rw (picture-begun r s e, not-behind (s .time), like-itself (s .header), and-false (isMarked (fragmentOf s)))
     (split (isBeyond r s) (λ b. rw b) (λ b. rw b))
 
 -- what an accepted packet brings goes among the fragments, and the picture stays well formed with it

@@ -1,11 +1,12 @@
 -- Which of two time stamps is the newer. Assumes nothing.
 use Prim.Native.Nat.{ℕ, _+_, _-_, _%_, _^_, _≤_, _<_}
-use mathlib.Core.Bool.{Bool, false}
+use mathlib.Core.Bool.{Bool, true, false}
 use mathlib.Core.Path.{_≡_}
 use native.Mathlib.Omega.{arith}
-use borrow.Author.Tests.{le-leb, lt-leb}
-use lib.Dec.{leb, ltb, leb·suc-suc}
-use Rattle.laws.specs.Within.{within, is-under}
+use borrow.Author.Tests.{leb-false, le-leb, lt-leb, eqb-true, eqb-false}
+use lib.Dec.{leb, ltb, eqb, leb·suc-suc}
+use Rattle.laws.specs.Truth.{split, never-both}
+use Rattle.laws.specs.Within.{within, is-within, is-under}
 
 -- How far t is ahead of h: the difference modulo 2^32.
 unfoldable pub ahead : ℕ → ℕ → ℕ
@@ -43,3 +44,12 @@ module _ (t : ℕ) where
 
   pub not-behind : isBehind t t ≡ false
   not-behind = rw ahead-none (lt-leb (2 ^ 31) 0 (omega arith))
+
+-- and one that is neither the other nor newer is behind it
+pub behind-else : (t h : ℕ) → t < 2 ^ 32 → h < 2 ^ 32 → (t ≡ h → ⊥) → isNewer t h ≡ false → isBehind t h ≡ true
+unfolding ahead
+behind-else t h a b differs older = split (isBehind t h) (λ e. e)
+    (λ e. absurd (never-both (is-within 1 (2 ^ 31 - 1) (ahead t h) some (let less = leb-false (2 ^ 31) (ahead t h) e in omega arith)) older))
+  where
+    some : 1 ≤ ahead t h
+    some = split (eqb (ahead t h) 0) (λ e. absurd (differs (let z = eqb-true (ahead t h) 0 e in omega arith))) (λ e. let z = eqb-false (ahead t h) 0 e in omega arith)

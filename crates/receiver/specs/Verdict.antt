@@ -2,8 +2,8 @@
 use Prim.Native.Nat.{ℕ, _≤_, _<_}
 use mathlib.Core.Bool.{Bool, false, not, _&&_, _||_}
 use mathlib.Core.List.{List, [], _∷_, _++_}
-use mathlib.Core.Path.{_≡_}
-use borrow.Author.Tests.{ltb-false, leb-false, eqb-true, not-false}
+use mathlib.Core.Path.{_≡_, refl}
+use borrow.Author.Tests.{ltb-false, leb-false, eqb-true, eq-eqb, not-false}
 use lib.Dec.{ltb, leb, eqb}
 use lib.ListN.{length}
 use Rattle.fragments.specs.Clash.{clashes, Clear, clear}
@@ -93,6 +93,10 @@ pub record Accepted (r : Receiver) (s : Packet) : Type 0 where
   pub clear : Clear (fragmentOf s) (heldFragments r)
   pub few : length (heldFragments r) < 64
   pub supplied : isBare (r .kept) s ≡ false
+
+pub like-itself : (h : Header) → isUnlike h h ≡ false
+unfolding isUnlike
+like-itself h = rw (eq-eqb (h .kind) (h .kind) refl, eq-eqb (h .q) (h .q) refl, eq-eqb (h .width) (h .width) refl, eq-eqb (h .height) (h .height) refl, eq-eqb (h .interval) (h .interval) refl)
 
 same-header : (h g : Header) → isUnlike h g ≡ false → h ≡ g
 unfolding isUnlike

@@ -85,8 +85,9 @@ module _ (b : List ℕ) (bytes : Bytes b) (jpeg : JpegPassed b) where
     no-interval = λ e. interval-none b e;
   }
 
-full : (l : List ℕ) → length l ≡ 128 → filledUp l ≡ l
-full l e = rw (e, take-all 128 l (omega arith)) (append-nil l)
+-- 128 bytes are as they are when filled up
+pub filled-already : (l : List ℕ) → length l ≡ 128 → filledUp l ≡ l
+filled-already l e = rw (e, take-all 128 l (omega arith)) (append-nil l)
 
 module _ {source : ℕ} (p : List ℕ) (rtp : RtpPassed source p) (jpeg : JpegPassed (payload p)) where
   long : length (payload p) ≡ payloadLength p
@@ -121,7 +122,7 @@ module _ {source : ℕ} (p : List ℕ) (rtp : RtpPassed source p) (jpeg : JpegPa
 
     tables-there : tablesIn p (said p) ≡ tables (payload p)
     unfolding tablesIn
-    tables-there = rw part-there (full (tables (payload p)) tables-long)
+    tables-there = rw part-there (filled-already (tables (payload p)) tables-long)
 
   module _ (bytes : Bytes p) where
     entries : Come (payload p) → Each (Between 1 255) (tables (payload p))

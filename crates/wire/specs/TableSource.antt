@@ -1,7 +1,7 @@
 -- Where a picture's quantiser tables come from, by its Q: RFC 2435 sections 3.1.4 and 4.2. Assumes nothing.
 use Prim.Native.Nat.{ℕ, _≤_, _<_}
 use mathlib.Core.Bool.{Bool, true, false, cond}
-use mathlib.Core.Path.{_≡_, refl}
+use mathlib.Core.Path.{_≡_, refl, sym, _∙_}
 use native.Mathlib.Omega.{arith}
 use borrow.Author.Tests.{eq-eqb, ne-eqb}
 use lib.Dec.{eqb}
@@ -82,12 +82,12 @@ module _ (q : ℕ) where
 
 -- and back from the source to the numbers
 module _ (q : ℕ) where
-  pub made-between : isMade (tableSource q) ≡ true → Between 1 99 q
+  pub made-within : isMade (tableSource q) ≡ within 1 99 q
   unfolding tableSource
-  made-between e = split (within 1 99 q) (λ w. between 1 99 q w) (λ w. absurd (never-both e (not-made w)))
-    where
-      not-made : within 1 99 q ≡ false → isMade (tableSource q) ≡ false
-      not-made w = rw w (split (within 128 254 q) (λ a. rw a) (λ a. rw a (split (eqb q 255) (λ b. rw b) (λ b. rw b))))
+  made-within = split (within 1 99 q) (λ w. rw w) (λ w. rw w (split (within 128 254 q) (λ a. rw a) (λ a. rw a (split (eqb q 255) (λ b. rw b) (λ b. rw b)))))
+
+  pub made-between : isMade (tableSource q) ≡ true → Between 1 99 q
+  made-between e = between 1 99 q (sym made-within ∙ e)
 
   pub kept-or-brought-between : isKeptOrBrought (tableSource q) ≡ true → Between 128 254 q
   unfolding tableSource

@@ -1,0 +1,122 @@
+-- Demand 3. `Delivery` has what its words mean. Assumes nothing.
+use Prim.Native.Nat.{ℕ, _^_, _<_}
+use mathlib.Core.Bool.{true}
+use mathlib.Core.List.{List, [], _∷_, _++_}
+use mathlib.Core.Path.{_≡_, refl, sym, subst, _∙_}
+use native.Mathlib.Omega.{arith}
+use lib.ListN.{length, drop}
+use lib.Seq.{take-append-seam}
+use Rattle.fragments.specs.Fragments.{fragmentAt}
+use Rattle.fragments.specs.Tiles.{tiles-inside}
+use Rattle.fragments.specs.declared.Fragment.{Fragment}
+use Rattle.replies.specs.Checks.{judged}
+use Rattle.replies.specs.Output.{succeeded, writes-all}
+use Rattle.replies.specs.Reply
+use Rattle.replies.specs.declared.Judged.the-variants.{Passed}
+use Rattle.sender.specs.Cuts.{cuts}
+use Rattle.sender.specs.Packet.{packet}
+use Rattle.sender.specs.PacketBytes.{packet-bytes}
+use Rattle.sender.specs.Picture.{Picture}
+use Rattle.sender.specs.ReadBack.{ReadBack}
+use Rattle.sender.specs.Sending.{checks, sending}
+use Rattle.sender.specs.Sent.{Sent, sent, sent-cut, success-read-back}
+use Rattle.sender.specs.declared.Stamp.{Stamp}
+use Rattle.state.specs.Receiver.{fresh}
+use Rattle.state.specs.WellFormed.{wellFormed}
+use Rattle.state.specs.declared.Answer.{Answer}
+use Rattle.wire.specs.Field.{Bytes}
+use Rattle.demands.specs.Arrivals.{whole-once}
+use Rattle.demands.specs.Arrived.{arrived, Ok, comes-to, other-comes}
+use Rattle.demands.specs.Delivery.Arrival.{ours, other}
+use Rattle.demands.specs.Delivery.{Packets, FromSender, Awaited, Arrival, Arrive, FileHolds, Delivered, Delivers}
+use Rattle.demands.specs.FirstToCome.{beginning, begins, first-comes}
+use Rattle.demands.specs.History.{State, state, History, step, after, answers, history}
+use Rattle.demands.specs.Reachable.{reachable}
+use Rattle.demands.specs.Says.{says}
+use Rattle.demands.specs.Whole.{file-holds}
+
+-- a packet that comes, of those that are awaited
+one-comes : (s : Stamp) (n : ℕ) (arrivals : List Arrival) → Arrive s n arrivals → (k : ℕ) × (k < n)
+one-comes s n [] a = absurd (a .from-the-first)
+one-comes s n (ours k ∷ arrivals) a = (k, a .no-other .0)
+one-comes s n (other q ∷ arrivals) a = absurd (a .from-the-first)
+
+-- from any well-formed receiver with an area as long as its room
+delivered : (s : Stamp) (p : Picture) (cs : List Fragment) (packet : ℕ → List ℕ) (x : State) (arrivals : List Arrival)
+    → wellFormed (x .receiver) ≡ true → length (x .area) ≡ x .receiver .room
+    → Packets s p cs packet → Awaited s p x → Arrive s (length cs) arrivals → Delivered step p (length cs) packet x arrivals
+delivered s p cs packet x arrivals well lent ps awaited arrive =
+    let b = beginning s p x in
+    let start = begins s p cs packet ps x awaited well lent in
+    let t = whole-once step packet (arrived p cs b (x .area)) (Ok p cs b (x .area)) s (length cs)
+    (λ come ok. ok .0)
+    (λ come ok k i. comes-to s p cs packet ps b (x .area) start come ok k i (says ps k i))
+    (λ come ok q bytes harmless. other-comes s p cs packet ps b (x .area) start come ok q bytes harmless)
+    x arrivals arrive
+    (λ k i. first-comes s p cs packet ps x awaited well lent k i) in
+    record {
+      whole-once = t .0;
+      file = subst (FileHolds p) (sym (t .1 .3)) (file-holds s p cs packet ps b (x .area) start (t .1 .0) (t .1 .1) (t .1 .2) some);
+    }
+  where
+    some : 0 < length (p .scan)
+    some =
+        let k = one-comes s (length cs) arrivals arrive in
+        let i = tiles-inside 0 cs (length (p .scan)) (k .0) (ps .tile) (k .1) in
+        omega (arith, i .some, i .to)
+
+-- After any history of calls that meet their contract, however the picture is cut.
+pub delivery : (source room : ℕ) (earlier : List (List ℕ)) (answered : List Answer) (x : State) → History source room earlier answered x
+    → (s : Stamp) (p : Picture) (cs : List Fragment) (packet : ℕ → List ℕ) (arrivals : List Arrival)
+    → Packets s p cs packet → Awaited s p x → Arrive s (length cs) arrivals → Delivered step p (length cs) packet x arrivals
+delivery source room earlier answered x h s p cs packet arrivals =
+    let r = reachable source room earlier answered x h in
+    delivered s p cs packet x arrivals (r .well-formed) (r .as-long-as-the-room ∙ sym (r .room-stays))
+
+-- So the receiver's step delivers, which is the same in terms of the step alone.
+pub delivers : Delivers step
+delivers source room area earlier range long bytes = delivery source room earlier (answers step (state (fresh source room) area) earlier) (after step (state (fresh source room) area) earlier) (history source room area earlier range long bytes)
+
+-- Our sender's packets are such packets,
+from-sender : (s : Stamp) (p : Picture) (size : ℕ) (packet : ℕ → List ℕ) → FromSender s p size packet → (k : ℕ) → k < length (cuts size p) → Packets s p (cuts size p) packet
+from-sender s p size packet f k i =
+    let cut = sent-cut s p size k (call k i .ok) (f .time) (f .source) in
+    record {
+      sendable = cut .sendable;
+      tile = cut .tiles;
+      few = cut .few;
+      read-back = λ j within. let c = f .each j within in subst (ReadBack s p (fragmentAt (cuts size p) j)) (sym (c .written)) (success-read-back p size s j (c .sends) (c .with-reply-0) (f .time) (f .source));
+      bytes = λ j within. let c = f .each j within in
+          subst Bytes (sym (c .written ∙ call j within .front)) (packet-bytes s p j (fragmentAt (cuts size p) j) (cut .sendable .header) (f .tables) (f .scan) (tiles-inside 0 (cuts size p) (length (p .scan)) j (cut .tiles) within .marker));
+    }
+  where
+    call : (j : ℕ) (within : j < length (cuts size p)) → Sent p size s j (f .each j within .answer) (f .each j within .left)
+    call j within = let c = f .each j within in sent p size s j (c .sends) (c .with-reply-0)
+
+-- and so they are delivered.
+pub sent-delivery : (source room : ℕ) (earlier : List (List ℕ)) (answered : List Answer) (x : State) → History source room earlier answered x
+    → (s : Stamp) (p : Picture) (size : ℕ) (packet : ℕ → List ℕ) (arrivals : List Arrival)
+    → FromSender s p size packet → Awaited s p x → Arrive s (length (cuts size p)) arrivals → Delivered step p (length (cuts size p)) packet x arrivals
+sent-delivery source room earlier answered x h s p size packet arrivals f awaited arrive =
+    let k = one-comes s (length (cuts size p)) arrivals arrive in
+    delivery source room earlier answered x h s p (cuts size p) packet arrivals (from-sender s p size packet f (k .0) (k .1)) awaited arrive
+
+-- There are packets from our sender of every picture that it takes: each asked for with an output as long as it is.
+pub packets-sent : (s : Stamp) (p : Picture) (size : ℕ) → Bytes (p .scan) → Bytes (p .tables) → s .time < 2 ^ 32 → s .source < 2 ^ 32
+    → ((k : ℕ) → k < length (cuts size p) → judged (checks p size k) ≡ Passed) → FromSender s p size (λ (k : ℕ). packet s p k (fragmentAt (cuts size p) k))
+unfolding sending
+packets-sent s p size scan tables time source passed = record {
+  scan = scan;
+  tables = tables;
+  time = time;
+  source = source;
+  each = λ k i. let bytes = packet s p k (fragmentAt (cuts size p) k) in
+      record {
+        output = bytes;
+        answer = succeeded (length bytes);
+        left = bytes ++ drop (length bytes) bytes;
+        sends = rw (passed k i) (writes-all (length bytes) refl (omega arith) refl refl);
+        with-reply-0 = refl;
+        written = sym (take-append-seam bytes (drop (length bytes) bytes));
+      };
+}
