@@ -26,42 +26,41 @@ use Rattle.state.specs.WellFormed.{wellFormed}
 use Rattle.state.specs.declared.Answer.{Answer}
 use Rattle.wire.specs.Field.{Bytes}
 use Rattle.demands.specs.Arrivals.{whole-once}
-use Rattle.demands.specs.Arrived.{arrived, Ok, comes-to, other-comes}
+use Rattle.demands.specs.Arrived.{arrived, Ok, other-comes}
 use Rattle.demands.specs.Delivery.Arrival.{ours, other}
 use Rattle.demands.specs.Delivery.{Packets, FromSender, Awaited, Arrival, Arrive, FileHolds, Delivered, Delivers}
-use Rattle.demands.specs.FirstToCome.{beginning, begins, first-comes}
-use Rattle.demands.specs.History.{State, state, History, step, after, answers, history}
+use Rattle.demands.specs.FirstToCome.{beginning, first-comes}
+use Rattle.demands.specs.History.{State, state, History, Outcome, step, after, answers, MeetsContract, the-step, history}
+use Rattle.demands.specs.OneMore.{one-comes}
 use Rattle.demands.specs.Reachable.{reachable}
-use Rattle.demands.specs.Says.{says}
 use Rattle.demands.specs.Whole.{file-holds}
 
--- a packet that comes, of those that are awaited
-one-comes : (s : Stamp) (n : ℕ) (arrivals : List Arrival) → Arrive s n arrivals → (k : ℕ) × (k < n)
-one-comes s n [] a = absurd (a .from-the-first)
-one-comes s n (ours k ∷ arrivals) a = (k, a .no-other .0)
-one-comes s n (other q ∷ arrivals) a = absurd (a .from-the-first)
+-- the packet of the picture with which the arrivals begin
+first-index : (s : Stamp) (n : ℕ) (arrivals : List Arrival) → Arrive s n arrivals → (k : ℕ) × (k < n)
+first-index s n [] a = absurd (a .from-the-first)
+first-index s n (ours k ∷ arrivals) a = (k, a .no-other .0)
+first-index s n (other q ∷ arrivals) a = absurd (a .from-the-first)
 
 -- from any well-formed receiver with an area as long as its room
 delivered : (s : Stamp) (p : Picture) (cs : List Fragment) (packet : ℕ → List ℕ) (x : State) (arrivals : List Arrival)
     → wellFormed (x .receiver) ≡ true → length (x .area) ≡ x .receiver .room
     → Packets s p cs packet → Awaited s p x → Arrive s (length cs) arrivals → Delivered step p (length cs) packet x arrivals
 delivered s p cs packet x arrivals well lent ps awaited arrive =
-    let b = beginning s p x in
-    let start = begins s p cs packet ps x awaited well lent in
-    let t = whole-once step packet (arrived p cs b (x .area)) (Ok p cs b (x .area)) s (length cs)
+    let g = beginning ps awaited lent in
+    let t = whole-once step packet (arrived g) (Ok g) s (length cs)
     (λ come ok. ok .0)
-    (λ come ok k i. comes-to s p cs packet ps b (x .area) start come ok k i (says ps k i))
-    (λ come ok q bytes harmless. other-comes s p cs packet ps b (x .area) start come ok q bytes harmless)
+    (λ come ok k i. one-comes g come ok k i)
+    (λ come ok q bytes harmless. other-comes g come ok q bytes harmless)
     x arrivals arrive
-    (λ k i. first-comes s p cs packet ps x awaited well lent k i) in
+    (λ k i. first-comes ps awaited lent well k i) in
     record {
       whole-once = t .0;
-      file = subst (FileHolds p) (sym (t .1 .3)) (file-holds s p cs packet ps b (x .area) start (t .1 .0) (t .1 .1) (t .1 .2) some);
+      file = subst (FileHolds p) (sym (t .1 .3)) (file-holds g (t .1 .0) (t .1 .1) (t .1 .2) some);
     }
   where
     some : 0 < length (p .scan)
     some =
-        let k = one-comes s (length cs) arrivals arrive in
+        let k = first-index s (length cs) arrivals arrive in
         let i = tiles-inside 0 cs (length (p .scan)) (k .0) (ps .tile) (k .1) in
         omega (arith, i .some, i .to)
 
@@ -73,9 +72,14 @@ delivery source room earlier answered x h s p cs packet arrivals =
     let r = reachable source room earlier answered x h in
     delivered s p cs packet x arrivals (r .well-formed) (r .as-long-as-the-room ∙ sym (r .room-stays))
 
--- So the receiver's step delivers, which is the same in terms of the step alone.
-pub delivers : Delivers step
-delivers source room area earlier range long bytes = delivery source room earlier (answers step (state (fresh source room) area) earlier) (after step (state (fresh source room) area) earlier) (history source room area earlier range long bytes)
+-- So the receiver's step delivers, and with it whatever meets the contract of `receiver::receive`.
+delivers-itself : Delivers step
+delivers-itself source room area earlier range long bytes =
+    let x = state (fresh source room) area in
+    delivery source room earlier (answers step x earlier) (after step x earlier) (history source room area earlier range long bytes)
+
+pub delivers : (f : State → List ℕ → Outcome State) → MeetsContract f → Delivers f
+delivers f met = subst Delivers (the-step f met) delivers-itself
 
 -- Our sender's packets are such packets,
 from-sender : (s : Stamp) (p : Picture) (size : ℕ) (packet : ℕ → List ℕ) → FromSender s p size packet → (k : ℕ) → k < length (cuts size p) → Packets s p (cuts size p) packet
@@ -98,7 +102,7 @@ pub sent-delivery : (source room : ℕ) (earlier : List (List ℕ)) (answered : 
     → (s : Stamp) (p : Picture) (size : ℕ) (packet : ℕ → List ℕ) (arrivals : List Arrival)
     → FromSender s p size packet → Awaited s p x → Arrive s (length (cuts size p)) arrivals → Delivered step p (length (cuts size p)) packet x arrivals
 sent-delivery source room earlier answered x h s p size packet arrivals f awaited arrive =
-    let k = one-comes s (length (cuts size p)) arrivals arrive in
+    let k = first-index s (length (cuts size p)) arrivals arrive in
     delivery source room earlier answered x h s p (cuts size p) packet arrivals (from-sender s p size packet f (k .0) (k .1)) awaited arrive
 
 -- There are packets from our sender of every picture that it takes: each asked for with an output as long as it is.

@@ -1,7 +1,7 @@
 -- A history of calls, a packet each. Assumes nothing.
 use Prim.Native.Nat.{ℕ, _<_}
 use mathlib.Core.List.{List, [], _∷_, _++_}
-use mathlib.Core.Path.{_≡_, refl, sym, ap, ap₂, _∙_}
+use mathlib.Core.Path.{_≡_, refl, sym, ap, ap₂, fun-ext, _∙_}
 use lib.ListN.{length, drop}
 use Rattle.laws.specs.Each.{Each, each-take, each-drop}
 use Rattle.laws.specs.Within.{Between}
@@ -78,11 +78,18 @@ module _ {S : Type 0} (step : S → List ℕ → Outcome S) where
 abbrev pub step : State → List ℕ → Outcome State
 step x p = let d = received (x .receiver) (x .area) p in outcome (d .answer) (state (d .receiver) (areaAfter (x .receiver) (x .area) p))
 
+-- A step that meets the contract of `receiver::receive` in every state and for every packet.
+abbrev pub MeetsContract : (State → List ℕ → Outcome State) → Type 0
+MeetsContract f = (x : State) (p : List ℕ) → Receives (x .receiver) (x .area) p (record { answer = f x p .answer; receiver = f x p .left .receiver }) (f x p .left .area)
+
 -- ---- laws
 
 -- a call that meets its contract is a step, and so a history is what the step makes of its packets
 is-step : (x : State) (p : List ℕ) (a : Answer) (z : State) → Receives (x .receiver) (x .area) p (record { answer = a; receiver = z .receiver }) (z .area) → outcome a z ≡ step x p
 is-step x p a z met = ap₂ (λ (d : Received) (area : List ℕ). outcome (d .answer) (state (d .receiver) area)) (met .answer) (met .lent)
+
+pub the-step : (f : State → List ℕ → Outcome State) → MeetsContract f → step ≡ f
+the-step f met = fun-ext (λ x. fun-ext (λ p. sym (is-step x p (f x p .answer) (f x p .left) (met x p))))
 
 pub calls-step : (x : State) (packets : List (List ℕ)) (answered : List Answer) (y : State) → Calls x packets answered y → (answered ≡ answers step x packets) × (y ≡ after step x packets)
 calls-step x [] [] y c = (refl, sym c)

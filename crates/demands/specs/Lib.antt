@@ -12,6 +12,7 @@ pub mod CutsIn
 pub mod Filled
 pub mod Says
 pub mod Arrived
+pub mod OneMore
 pub mod Whole
 pub mod FirstToCome
 pub mod Demand3

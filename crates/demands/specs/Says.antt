@@ -58,7 +58,7 @@ module _ {s : Stamp} {p : Picture} (sendable : Sendable s p) where
   brought : bringsTables p ≡ true → (length (p .tables) ≡ 128) × (tablesFor p ≡ p .tables)
   brought e = ⊎-elim
       (λ none. absurd (never-both e (rw (none .0))))
-      (λ full. (full .1, rw (sym (made-within (p .header .q)) ∙ in-band-not-made (tableSource (p .header .q)) (full .0))))
+      (λ full. (full .1, ap (λ (b : Bool). cond b (tablesOf (p .header .q)) (p .tables)) (sym (made-within (p .header .q)) ∙ in-band-not-made (tableSource (p .header .q)) (full .0))))
       (none-or-full (tableSource (p .header .q)) (p .tables) (sendable .tables))
 
   pub own-tables : bringsTables p ≡ true → tablesFor p ≡ p .tables

@@ -2,7 +2,7 @@
 use Prim.Native.Nat.{ℕ, zero, suc, _<_}
 use mathlib.Core.Bool.{Bool, true, false, _&&_, _||_}
 use mathlib.Core.List.{List, [], _∷_}
-use mathlib.Core.Path.{_≡_, refl, sym}
+use mathlib.Core.Path.{_≡_, refl, sym, _∙_}
 use native.Mathlib.Omega.{arith}
 use lib.Dec.{eqb, eqb·zero-suc, eqb·suc-zero, eqb·suc-suc}
 use lib.ListN.{length, getD, set, replicate}
@@ -52,3 +52,8 @@ in-set (b ∷ s) (suc j) (suc k) = rw eqb·suc-suc (in-set s j k)
 -- what is in the set is not put in again
 pub set-in : (s : List Bool) (k : ℕ) → getD s k true ≡ true → set s k true ≡ s
 set-in s k m = rw m at (set-getD s k true)
+
+-- whether packet k is the first, asked either way round
+pub swapped : (k : ℕ) → eqb 0 k ≡ eqb k 0
+swapped zero = refl
+swapped (suc k) = eqb·zero-suc k ∙ sym (eqb·suc-zero k)

@@ -1,5 +1,5 @@
--- Document 01's picture of two packets delivered backwards, with a repeat and with other packets between: what demand 3 asks of arrivals
--- can be met. Assumes nothing.
+-- Pictures of two packets delivered backwards, with a repeat and with other packets between: what demand 3 asks of arrivals can be met.
+-- Assumes nothing.
 use Prim.Native.Nat.{ℕ, zero, suc, _+_, _≤_, _<_}
 use mathlib.Core.Bool.{true}
 use mathlib.Core.List.{List, [], _∷_, map}
@@ -156,7 +156,7 @@ earlier : Each Bytes (older ∷ [])
 earlier = let b : Bytes older = omega arith in (b, tt)
 
 pub transcript-delivered : Delivered step four 2 inTranscript before arrivals
-transcript-delivered = delivers 1 200 area (older ∷ []) (omega arith) refl earlier stamp four cs inTranscript arrivals packets (awaited four refl (omega arith)) arrive
+transcript-delivered = delivers step (λ x p. record { answer = refl; lent = refl }) 1 200 area (older ∷ []) (omega arith) refl earlier stamp four cs inTranscript arrivals packets (awaited four refl (omega arith)) arrive
 
 -- The same of document 01's picture of 173 bytes, which our sender cuts in two where packets are of 192 bytes.
 abbrev sentPacket : ℕ → List ℕ

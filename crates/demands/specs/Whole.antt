@@ -15,14 +15,12 @@ use Rattle.head.specs.Head.{head}
 use Rattle.head.specs.declared.Frame.{Frame}
 use Rattle.replies.specs.Output.{succeeded}
 use Rattle.replies.specs.declared.Written.{Written}
-use Rattle.sender.specs.Picture.{Picture}
-use Rattle.sender.specs.declared.Stamp.{Stamp}
 use Rattle.state.specs.WellFormed.{well-formed}
 use Rattle.state.specs.declared.Receiver.{Receiver}
-use Rattle.demands.specs.Arrived.{Begins, receiverAfter, arrived, Ok}
+use Rattle.demands.specs.Arrived.{Begun, receiverWith, areaWith, arrived, Ok, area-lent}
 use Rattle.demands.specs.CutsIn.{cutsIn, cuts-in-all, in-order, end-by, tiles-total, tiles-end, whole-in}
-use Rattle.demands.specs.Delivery.{Packets, FileHolds, frameFor, tablesFor}
-use Rattle.demands.specs.Filled.{filled, length-filled, front-filled}
+use Rattle.demands.specs.Delivery.{FileHolds, frameFor, tablesFor}
+use Rattle.demands.specs.Filled.{front-filled}
 use Rattle.demands.specs.Sets.{every, every-in}
 
 -- What is written for a file of these parts.
@@ -32,45 +30,44 @@ WrittenFor output w built f tables scan =
     → (w ≡ succeeded (length (file f tables scan)))
     × (built ≡ head f tables ++ scan ++ closing scan ++ drop (length (file f tables scan)) output)
 
-module _ (s : Stamp) (p : Picture) (cs : List Fragment) (packet : ℕ → List ℕ) (ps : Packets s p cs packet) (b : Receiver) (old : List ℕ) (begins : Begins s p b old)
-    (come : List Bool) (ok : Ok p cs b old come) (all : every come ≡ true) (some : 0 < length (p .scan)) where
+module _ (g : Begun) (come : List Bool) (ok : Ok g come) (all : every come ≡ true) (some : 0 < length (g .picture .scan)) where
+  abbrev scan : List ℕ
+  scan = g .picture .scan
+
   abbrev fs : List Fragment
-  fs = cutsIn come cs
+  fs = cutsIn come (g .cuts)
 
   abbrev r : Receiver
-  r = receiverAfter p cs b old come
+  r = receiverWith g come
 
   abbrev area : List ℕ
-  area = filled fs (p .scan) old
+  area = areaWith g come
 
-  all-cuts : fs ≡ cs
-  all-cuts = cuts-in-all come cs (ok .0) all
+  all-cuts : fs ≡ g .cuts
+  all-cuts = cuts-in-all come (g .cuts) (ok .0) all
 
-  ends : endOf fs ≡ length (p .scan)
-  ends = ap endOf all-cuts ∙ tiles-end (length (p .scan)) 0 cs some (ps .tile)
-
-  same-scan : scanOf r area ≡ p .scan
+  same-scan : scanOf r area ≡ scan
   same-scan =
-      ap (λ (n : ℕ). take n area) ends
-      ∙ front-filled fs (p .scan) old (in-order (length (p .scan)) 0 0 come cs (omega arith) (ps .tile)) (end-by (length (p .scan)) 0 come cs (ps .tile))
-      (omega (arith, ap total all-cuts, tiles-total (length (p .scan)) 0 cs (ps .tile))) (begins .fits)
+      ap (λ (n : ℕ). take n area) (ap endOf all-cuts ∙ tiles-end (length scan) 0 (g .cuts) some (g .packets .tile))
+      ∙ front-filled fs scan (g .area) (in-order (length scan) 0 0 come (g .cuts) (omega arith) (g .packets .tile)) (end-by (length scan) 0 come (g .cuts) (g .packets .tile))
+      (omega (arith, ap total all-cuts, tiles-total (length scan) 0 (g .cuts) (g .packets .tile))) (g .fits)
 
-  same-tables : r .tables ≡ tablesFor p
+  same-tables : r .tables ≡ tablesFor (g .picture)
   same-tables = rw (every-in come 0 all)
 
-  same-frame : frameOf r ≡ frameFor (p .header)
-  same-frame = ap frameFor (sym (begins .header))
+  same-frame : frameOf r ≡ frameFor (g .picture .header)
+  same-frame = ap frameFor (sym (g .header))
 
   buildable : Buildable r area
   buildable = record {
     well = well-formed r (ok .1);
-    room = length-filled fs (p .scan) old ∙ begins .lent;
-    whole = rw (held-padded fs) (whole-in (length (p .scan)) come cs some (ps .tile) (ok .0) ∙ all);
+    room = area-lent g come ok;
+    whole = rw (held-padded fs) (whole-in (length scan) come (g .cuts) some (g .packets .tile) (ok .0) ∙ all);
   }
 
-  pub file-holds : FileHolds p (arrived p cs b old come)
+  pub file-holds : FileHolds (g .picture) (arrived g come)
   file-holds output w built builds =
-      subst (λ (f : Frame). WrittenFor output w built f (tablesFor p) (p .scan)) same-frame
-      (subst (λ (tables : List ℕ). WrittenFor output w built (frameOf r) tables (p .scan)) same-tables
-      (subst (λ (scan : List ℕ). WrittenFor output w built (frameOf r) (r .tables) scan) same-scan
+      subst (λ (f : Frame). WrittenFor output w built f (tablesFor (g .picture)) scan) same-frame
+      (subst (λ (tables : List ℕ). WrittenFor output w built (frameOf r) tables scan) same-tables
+      (subst (λ (bytes : List ℕ). WrittenFor output w built (frameOf r) (r .tables) bytes) same-scan
       (λ fits. whole-built r area builds buildable fits)))

@@ -32,7 +32,7 @@ use Rattle.wire.specs.declared.Reading.{Reading}
 use Rattle.receiver.specs.FirstPacket.{isBare, kept-after-well, tables-after-right}
 use Rattle.receiver.specs.Picture.{starts, pictureFor, picture-begun, picture-source, picture-room, picture-well-formed}
 use Rattle.receiver.specs.Step.Decision.{leave, accept}
-use Rattle.receiver.specs.Step.{decision, judgedRead, taken, held, answering, tookIn, received, areaAfter}
+use Rattle.receiver.specs.Step.{decision, ruled, judgedRead, taken, held, answering, tookIn, received, areaAfter}
 use Rattle.receiver.specs.Time.{not-behind}
 use Rattle.receiver.specs.Verdict.{fragmentOf, isBeyond, checks, verdict, Accepted, accepted, like-itself}
 
@@ -95,6 +95,10 @@ module _ (r : Receiver) (area p : List ℕ) where
   pub read-first : wellFormed r ≡ true → length area ≡ r .room → decision r area p ≡ judgedRead r area p (reading (r .source) p)
   unfolding decision
   read-first w e = rw (w, eq-eqb (length area) (r .room) e)
+
+  -- what was read is judged on the picture that it is for
+  pub judged-on : {s : Packet} {v : Receiver} → wellFormed r ≡ true → length area ≡ r .room → reading (r .source) p ≡ Answer.Said s → pictureFor r s ≡ v → decision r area p ≡ ruled (judged (checks v area p s)) s
+  judged-on {s} w l e same = read-first w l ∙ ap (judgedRead r area p) e ∙ ap (λ (v : Receiver). ruled (judged (checks v area p s)) s) same
 
   pub when-left : {n : ℕ} → decision r area p ≡ leave n → (received r area p ≡ answering n (held r) r) × (areaAfter r area p ≡ area)
   unfolding received areaAfter
