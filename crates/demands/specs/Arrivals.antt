@@ -2,175 +2,200 @@
 -- have come. Assumes nothing.
 use Prim.Native.Nat.{ℕ, _<_}
 use mathlib.Core.Bool.{Bool, true, false, cond, _||_}
-use mathlib.Core.List.{List, [], _∷_, _++_}
-use mathlib.Core.Logic.{_⊎_, inl, inr}
+use mathlib.Core.List.{List, [], _∷_, _++_, append-assoc}
 use mathlib.Core.Path.{_≡_, refl, sym, ap, subst, _∙_}
 use borrow.Author.Tests.{ne-eqb}
 use lib.Dec.{eqb}
 use lib.ListN.{length, getD, set}
 use Rattle.laws.specs.Each.{Each}
-use Rattle.laws.specs.Truth.{split, never-both, or-none, or-true, or-assoc}
+use Rattle.laws.specs.Truth.{split, never-both, or-none, or-true, or-false, or-assoc}
 use Rattle.replies.specs.Reply
 use Rattle.sender.specs.declared.Stamp.{Stamp}
 use Rattle.wire.specs.Field.{Bytes}
 use Rattle.demands.specs.Delivery.Arrival.{ours, other}
-use Rattle.demands.specs.Delivery.{Arrival, Allowed, Harmless, comes, bytesIn, LeavesAll, leftBy, behind, Replied, WholeOnce, Arrive}
+use Rattle.demands.specs.Delivery.{Arrival, Allowed, Harmless, comes, LeavesAll, leftBy, behind, WholeOnce, BeginsWithOurs, Arrive}
 use Rattle.demands.specs.History.{Outcome}
 use Rattle.demands.specs.Sets.{every, none, every-in, some-out, not-every, none-out, in-set, set-in}
+
+-- The packets that have come when those of s had, and then these arrivals.
+abbrev pub come : List Bool → List Arrival → List Bool
+come s [] = s
+come s (ours k ∷ l) = come (set s k true) l
+come s (other q ∷ l) = come s l
 
 -- The reply to packet k when those of s have come.
 abbrev pub replyTo : List Bool → ℕ → ℕ
 replyTo s k = cond (every s) Reply.past (cond (getD s k true) Reply.again (cond (every (set s k true)) Reply.whole Reply.held))
 
--- Packet k has come to x as to the state after the set s, of which `Ok` holds.
+-- What packet k gives where those of s have come: that reply, and the state after it too, of which `Ok` holds.
 pub record Came {S : Type 0} (arrived : List Bool → S) (Ok : List Bool → Type 0) (s : List Bool) (k : ℕ) (o : Outcome S) : Type 0 where
   pub reply : o .answer .reply ≡ replyTo s k
   pub left : o .left ≡ arrived (set s k true)
   pub ok : Ok (set s k true)
 
+-- ---- laws
+
+-- which have come: in what order, and how often, leaves no trace
+in-come : (s : List Bool) (l : List Arrival) (k : ℕ) → getD (come s l) k true ≡ (getD s k true || comes k l)
+in-come s [] k = sym (or-false (getD s k true))
+in-come s (ours j ∷ l) k = in-come (set s j true) l k ∙ rw (in-set s j k) (sym (or-assoc (getD s k true) (eqb k j) (comes k l)))
+in-come s (other q ∷ l) k = in-come s l k
+
+come-append : (s : List Bool) (a b : List Arrival) → come s (a ++ b) ≡ come (come s a) b
+come-append s [] b = refl
+come-append s (ours k ∷ a) b = come-append (set s k true) a b
+come-append s (other q ∷ a) b = come-append s a b
+
+-- where all have come, nothing is added
+come-all : (s : List Bool) (l : List Arrival) → every s ≡ true → come s l ≡ s
+come-all s [] all = refl
+come-all s (ours k ∷ l) all = rw (set-in s k (every-in s k all)) (come-all s l all)
+come-all s (other q ∷ l) all = come-all s l all
+
+come-open : (s : List Bool) (l : List Arrival) → every (come s l) ≡ false → every s ≡ false
+come-open s l o = split (every s) (λ all. absurd (never-both (ap every (come-all s l all) ∙ all) o)) (λ some. some)
+
+-- The last gap: what comes before it is filled, and what fills it.
+record Gap (s : List Bool) (l : List Arrival) : Type 0 where
+  before : List Arrival
+  last : ℕ
+  late : List Arrival
+  order : l ≡ before ++ (ours last ∷ late)
+  is-open : every (come s before) ≡ false
+  filled : every (set (come s before) last true) ≡ true
+
+gap : (s : List Bool) (l : List Arrival) → every s ≡ false → every (come s l) ≡ true → Gap s l
+gap s [] o all = absurd (never-both all o)
+gap s (ours k ∷ l) o all = split (every (set s k true))
+    (λ full. record { before = []; last = k; late = l; order = refl; is-open = o; filled = full })
+    (λ some. let g = gap (set s k true) l some all in
+    record { before = ours k ∷ g .before; last = g .last; late = g .late; order = ap (λ (m : List Arrival). ours k ∷ m) (g .order); is-open = g .is-open; filled = g .filled })
+gap s (other q ∷ l) o all =
+    let g = gap s l o all in
+    record { before = other q ∷ g .before; last = g .last; late = g .late; order = ap (λ (m : List Arrival). other q ∷ m) (g .order); is-open = g .is-open; filled = g .filled }
+
+module _ (n : ℕ) {l : List Arrival} (g : Gap (none n) l) where
+  abbrev then : List Bool
+  then = come (none n) (g .before)
+
+  last-out : getD then (g .last) true ≡ false
+  last-out = split (getD then (g .last) true) (λ m. absurd (never-both (ap every (sym (set-in then (g .last) m)) ∙ g .filled) (g .is-open))) (λ m. m)
+
+  last-missing : comes (g .last) (g .before) ≡ false
+  last-missing = or-none (getD (none n) (g .last) true) (comes (g .last) (g .before)) (sym (in-come (none n) (g .before) (g .last)) ∙ last-out) .1
+
+  no-other-missing : (k : ℕ) → k < n → (k ≡ g .last → ⊥) → comes k (g .before) ≡ true
+  no-other-missing k i differs =
+      let there = sym (in-set then (g .last) k) ∙ every-in (set then (g .last) true) k (g .filled) in
+      rw (none-out n k i) at (sym (in-come (none n) (g .before) k) ∙ (rw (ne-eqb k (g .last) differs, or-false (getD then k true)) at there))
+
+  -- the replies, before the last gap is filled, at that packet, and later
+  reply-before : (a b : List Arrival) (k : ℕ) → k < n → g .before ≡ a ++ (ours k ∷ b) → replyTo (come (none n) a) k ≡ cond (comes k a) Reply.again Reply.held
+  reply-before a b k i e =
+      let o : every (come (come (none n) a) (ours k ∷ b)) ≡ false = ap every (sym (ap (come (none n)) e ∙ come-append (none n) a (ours k ∷ b))) ∙ g .is-open in
+      rw (come-open (come (none n) a) (ours k ∷ b) o, come-open (set (come (none n) a) k true) b o, in-come (none n) a k, none-out n k i)
+
+  reply-last : replyTo then (g .last) ≡ Reply.whole
+  reply-last = rw (g .is-open, last-out, g .filled)
+
+  reply-later : (a : List Arrival) (k : ℕ) → replyTo (come (none n) (g .before ++ (ours (g .last) ∷ a))) k ≡ Reply.past
+  reply-later a k = rw (come-append (none n) (g .before) (ours (g .last) ∷ a), come-all (set then (g .last) true) a (g .filled), g .filled)
+
+  all-then : come (none n) l ≡ set then (g .last) true
+  all-then = ap (come (none n)) (g .order) ∙ come-append (none n) (g .before) (ours (g .last) ∷ g .late) ∙ come-all (set then (g .last) true) (g .late) (g .filled)
+
+-- the packet of the picture with which the arrivals begin
+pub first-index : (s : Stamp) (n : ℕ) (arrivals : List Arrival) → Arrive s n arrivals → (k : ℕ) × (k < n)
+first-index s n [] a = absurd (a .from-the-first)
+first-index s n (ours k ∷ arrivals) a = (k, a .no-other .0)
+first-index s n (other q ∷ arrivals) a = absurd (a .from-the-first)
+
+each-parts : {A : Type 0} (P : A → Type 0) (l m : List A) → Each P (l ++ m) → Each P l × Each P m
+each-parts P [] m h = (tt, h)
+each-parts P (x ∷ l) m h = let t = each-parts P l m (h .1) in ((h .0, t .0), t .1)
+
 module _ {S : Type 0} (step : S → List ℕ → Outcome S) (packet : ℕ → List ℕ) (arrived : List Bool → S) (Ok : List Bool → Type 0) (stamp : Stamp) (n : ℕ)
     (long : (s : List Bool) → Ok s → length s ≡ n)
     (one : (s : List Bool) → Ok s → (k : ℕ) → k < n → Came arrived Ok s k (step (arrived s) (packet k)))
     (another : (s : List Bool) → Ok s → (q : List ℕ) → Bytes q → Harmless stamp q → LeavesAll step (arrived s) q) where
-  abbrev Waiting : ℕ → Type 0
-  Waiting reply = (reply ≡ Reply.held) ⊎ (reply ≡ Reply.again)
-
-  -- once all have come
-  module _ (s : List Bool) (ok : Ok s) (all : every s ≡ true) where
-    still : (k : ℕ) → k < n → (step (arrived s) (packet k) .answer .reply ≡ Reply.past) × (step (arrived s) (packet k) .left ≡ arrived s)
-    still k i =
-        let c = one s ok k i in
-        (c .reply ∙ rw all, c .left ∙ ap arrived (set-in s k (every-in s k all)))
-
-    all-past : (l : List Arrival) → Each (Allowed stamp n) l → Replied step packet (λ (reply : ℕ). reply ≡ Reply.past) (arrived s) l × (leftBy step packet (arrived s) l ≡ arrived s)
-    all-past [] h = (tt, refl)
-    all-past (ours k ∷ l) h =
-        let t = still k (h .0) in
-        let rest = all-past l (h .1) in
-        (rw (t .1) (t .0, rest .0), ap (λ (y : S). leftBy step packet y l) (t .1) ∙ rest .1)
-    all-past (other q ∷ l) h =
-        let t = another s ok q (h .0 .0) (h .0 .1) in
-        let rest = all-past l (h .1) in
-        ((t, rw (t .1) (rest .0)), ap (λ (y : S). leftBy step packet y l) (t .1) ∙ rest .1)
-
-  -- From x on, when those of s have come before.
-  record From (s : List Bool) (x : S) (l : List Arrival) : Type 0 where
-    before : List Arrival
-    last : ℕ
-    late : List Arrival
-    order : l ≡ before ++ (ours last ∷ late)
-    last-gap : (getD s last true || comes last before) ≡ false
-    no-other-gap : (k : ℕ) → k < n → (k ≡ last → ⊥) → (getD s k true || comes k before) ≡ true
-    waiting : Replied step packet Waiting x before
-    whole : behind step packet x before last .answer .reply ≡ Reply.whole
-    past : Replied step packet (λ (reply : ℕ). reply ≡ Reply.past) (behind step packet x before last .left) late
-    stays : leftBy step packet x l ≡ behind step packet x before last .left
-    come : List Bool
-    ok : Ok come
-    all : every come ≡ true
-    left : leftBy step packet x l ≡ arrived come
-
-  -- one arrival more in front, when it takes x to z, and those of s and it are those of s′
-  in-front : (a : Arrival) (s s′ : List Bool) (x z : S) (l : List Arrival) → step x (bytesIn packet a) .left ≡ z
-      → ((k : ℕ) (m : List Arrival) → (getD s k true || comes k (a ∷ m)) ≡ (getD s′ k true || comes k m))
-      → ((m : List Arrival) → Replied step packet Waiting z m → Replied step packet Waiting x (a ∷ m))
-      → From s′ z l → From s x (a ∷ l)
-  in-front a s s′ x z l e came waits d = record {
-    before = a ∷ d .before;
-    last = d .last;
-    late = d .late;
-    order = ap (λ (m : List Arrival). a ∷ m) (d .order);
-    last-gap = came (d .last) (d .before) ∙ d .last-gap;
-    no-other-gap = λ k i differs. came k (d .before) ∙ d .no-other-gap k i differs;
-    waiting = waits (d .before) (d .waiting);
-    whole = ap (λ (y : S). next y .answer .reply) e ∙ d .whole;
-    past = subst (λ (y : S). Replied step packet (λ (reply : ℕ). reply ≡ Reply.past) (next y .left) (d .late)) (sym e) (d .past);
-    stays = reach ∙ d .stays ∙ ap (λ (y : S). next y .left) (sym e);
-    come = d .come;
-    ok = d .ok;
-    all = d .all;
-    left = reach ∙ d .left;
-  }
-    where
-      next : S → Outcome S
-      next y = behind step packet y (d .before) (d .last)
-
-      reach : leftBy step packet x (a ∷ l) ≡ leftBy step packet z l
-      reach = ap (λ (y : S). leftBy step packet y l) e
-
-  -- packet k comes to x, where not all have come, and then what is left
-  module _ (s : List Bool) (o : every s ≡ false) (x : S) (k : ℕ) (c : Came arrived Ok s k (step x (packet k))) (l : List Arrival) (h : Each (Allowed stamp n) l) where
-    come-before : (j : ℕ) (m : List Arrival) → (getD s j true || (eqb j k || comes j m)) ≡ (getD (set s k true) j true || comes j m)
-    come-before j m = or-assoc (getD s j true) (eqb j k) (comes j m) ∙ rw (in-set s k j)
-
-    -- it fills the last gap
-    fills : every (set s k true) ≡ true → From s x (ours k ∷ l)
-    fills all =
-        let past = all-past (set s k true) (c .ok) all l h in
-        let reach = ap (λ (y : S). leftBy step packet y l) (c .left) ∙ past .1 in
-        record {
-          before = [];
-          last = k;
-          late = l;
-          order = refl;
-          last-gap = rw gap;
-          no-other-gap = λ j i differs. rw (ne-eqb j k differs) at (sym (in-set s k j) ∙ every-in (set s k true) j all);
-          waiting = tt;
-          whole = c .reply ∙ rw (o, gap, all);
-          past = rw (c .left) (past .0);
-          stays = reach ∙ sym (c .left);
-          come = set s k true;
-          ok = c .ok;
-          all = all;
-          left = reach;
-        }
-      where
-        gap : getD s k true ≡ false
-        gap = split (getD s k true) (λ m. absurd (never-both (ap every (sym (set-in s k m)) ∙ all) o)) (λ m. m)
-
-    -- or a gap is left
-    onward : (every (set s k true) ≡ false → From (set s k true) (arrived (set s k true)) l) → From s x (ours k ∷ l)
-    onward rest = split (every (set s k true)) (λ all. fills all)
-        (λ some. in-front (ours k) s (set s k true) x (arrived (set s k true)) l (c .left) (λ j m. come-before j m) (λ m r. (waits some, rw (c .left) r)) (rest some))
-      where
-        waits : every (set s k true) ≡ false → Waiting (step x (packet k) .answer .reply)
-        waits some = split (getD s k true) (λ m. inr (c .reply ∙ rw (o, m))) (λ m. inl (c .reply ∙ rw (o, m, some)))
-
-  going-on : (s : List Bool) → Ok s → every s ≡ false → (l : List Arrival) → Each (Allowed stamp n) l → ((k : ℕ) → k < n → (getD s k true || comes k l) ≡ true) → From s (arrived s) l
-  going-on s ok o [] h come =
-      let m = some-out s o in
-      absurd (never-both (come (m .0) (rw (long s ok) at (m .1))) (rw (m .2)))
-  going-on s ok o (ours k ∷ l) h come =
+  -- what arrivals leave of a state after a set is the state after what has come then
+  left-of : (s : List Bool) → Ok s → (l : List Arrival) → Each (Allowed stamp n) l → (leftBy step packet (arrived s) l ≡ arrived (come s l)) × Ok (come s l)
+  left-of s ok [] h = (refl, ok)
+  left-of s ok (ours k ∷ l) h =
       let c = one s ok k (h .0) in
-      onward s o (arrived s) k c l (h .1)
-      (λ some. going-on (set s k true) (c .ok) some l (h .1) (λ j i. sym (come-before s o (arrived s) k c l (h .1) j l) ∙ come j i))
-  going-on s ok o (other q ∷ l) h come =
-      let none = another s ok q (h .0 .0) (h .0 .1) in
-      in-front (other q) s s (arrived s) (arrived s) l (none .1) (λ k m. refl) (λ m r. (none, rw (none .1) r)) (going-on s ok o l (h .1) come)
+      let rest = left-of (set s k true) (c .ok) l (h .1) in
+      (ap (λ (y : S). leftBy step packet y l) (c .left) ∙ rest .0, rest .1)
+  left-of s ok (other q ∷ l) h =
+      let rest = left-of s ok l (h .1) in
+      (ap (λ (y : S). leftBy step packet y l) (another s ok q (h .0 .0) (h .0 .1) .1) ∙ rest .0, rest .1)
 
   -- From a state x that the first of them to come takes to the state after it alone.
-  pub whole-once : (x : S) (arrivals : List Arrival) → Arrive stamp n arrivals → ((k : ℕ) → k < n → Came arrived Ok (none n) k (step x (packet k)))
-      → WholeOnce step packet n x arrivals × ((s : List Bool) × Ok s × (every s ≡ true) × (leftBy step packet x arrivals ≡ arrived s))
-  whole-once x [] a first = absurd (a .from-the-first)
-  whole-once x (other q ∷ l) a first = absurd (a .from-the-first)
-  whole-once x (ours k ∷ l) a first =
-      let i = a .no-other .0 in
-      let c = first k i in
-      let o = not-every (none n) k (none-out n k i) in
-      let d = onward (none n) o x k c l (a .no-other .1)
-      (λ some. going-on (set (none n) k true) (c .ok) some l (a .no-other .1)
-      (λ j within. sym (come-before (none n) o x k c l (a .no-other .1) j l) ∙ rw (a .every-packet j within) (or-true (getD (none n) j true)))) in (
-        record {
-          before = d .before;
-          last = d .last;
-          late = d .late;
-          order = d .order;
-          last-gap = or-none (getD (none n) (d .last) true) (comes (d .last) (d .before)) (d .last-gap) .1;
-          no-other-gap = λ j within differs. rw (none-out n j within) at (d .no-other-gap j within differs);
-          held-or-again = d .waiting;
-          whole = d .whole;
-          past = d .past;
-          stays = d .stays;
-        },
-        (d .come, d .ok, d .all, d .left),
-      )
+  module _ (x : S) (first : (k : ℕ) → k < n → Came arrived Ok (none n) k (step x (packet k))) where
+    from-x : (l : List Arrival) → BeginsWithOurs l → Each (Allowed stamp n) l → (leftBy step packet x l ≡ arrived (come (none n) l)) × Ok (come (none n) l)
+    from-x [] begins h = absurd begins
+    from-x (other q ∷ l) begins h = absurd begins
+    from-x (ours k ∷ l) begins h =
+        let c = first k (h .0) in
+        let rest = left-of (set (none n) k true) (c .ok) l (h .1) in
+        (ap (λ (y : S). leftBy step packet y l) (c .left) ∙ rest .0, rest .1)
+
+    module _ (arrivals : List Arrival) (arrive : Arrive stamp n arrivals) where
+      -- at each place
+      came-behind : (a b : List Arrival) (k : ℕ) → arrivals ≡ a ++ (ours k ∷ b) → (k < n) × Came arrived Ok (come (none n) a) k (behind step packet x a k)
+      came-behind a b k e = go a (subst BeginsWithOurs e (arrive .from-the-first)) (subst (Each (Allowed stamp n)) e (arrive .no-other))
+        where
+          go : (a : List Arrival) → BeginsWithOurs (a ++ (ours k ∷ b)) → Each (Allowed stamp n) (a ++ (ours k ∷ b)) → (k < n) × Came arrived Ok (come (none n) a) k (behind step packet x a k)
+          go [] begins h = (h .0, first k (h .0))
+          go (other q ∷ a) begins h = absurd begins
+          go (ours j ∷ a) begins h =
+              let parts = each-parts (Allowed stamp n) (ours j ∷ a) (ours k ∷ b) h in
+              let t = from-x (ours j ∷ a) tt (parts .0) in
+              (parts .1 .0, subst (λ (y : S). Came arrived Ok (come (none n) (ours j ∷ a)) k (step y (packet k))) (sym (t .0)) (one (come (none n) (ours j ∷ a)) (t .1) k (parts .1 .0)))
+
+      other-behind : (a b : List Arrival) (q : List ℕ) → arrivals ≡ a ++ (other q ∷ b) → LeavesAll step (leftBy step packet x a) q
+      other-behind a b q e = go a (subst BeginsWithOurs e (arrive .from-the-first)) (subst (Each (Allowed stamp n)) e (arrive .no-other))
+        where
+          go : (a : List Arrival) → BeginsWithOurs (a ++ (other q ∷ b)) → Each (Allowed stamp n) (a ++ (other q ∷ b)) → LeavesAll step (leftBy step packet x a) q
+          go [] begins h = absurd begins
+          go (other p ∷ a) begins h = absurd begins
+          go (ours j ∷ a) begins h =
+              let parts = each-parts (Allowed stamp n) (ours j ∷ a) (other q ∷ b) h in
+              let t = from-x (ours j ∷ a) tt (parts .0) in
+              let allowed = parts .1 .0 in
+              subst (λ (y : S). LeavesAll step y q) (sym (t .0)) (another (come (none n) (ours j ∷ a)) (t .1) q (allowed .0) (allowed .1))
+
+      all-left : (leftBy step packet x arrivals ≡ arrived (come (none n) arrivals)) × Ok (come (none n) arrivals)
+      all-left = from-x arrivals (arrive .from-the-first) (arrive .no-other)
+
+      all-come : every (come (none n) arrivals) ≡ true
+      all-come = split (every (come (none n) arrivals)) (λ all. all)
+          (λ o. let m = some-out (come (none n) arrivals) o in
+          let there = arrive .every-packet (m .0) (rw (long (come (none n) arrivals) (all-left .1)) at (m .1)) in
+          absurd (never-both (in-come (none n) arrivals (m .0) ∙ rw there (or-true (getD (none n) (m .0) true))) (m .2)))
+
+      none-come : every (none n) ≡ false
+      none-come = let k = first-index stamp n arrivals arrive in not-every (none n) (k .0) (none-out n (k .0) (k .1))
+
+      pub whole-once : WholeOnce step packet n x arrivals × ((s : List Bool) × Ok s × (every s ≡ true) × (leftBy step packet x arrivals ≡ arrived s))
+      whole-once = (told (gap (none n) arrivals none-come all-come), (come (none n) arrivals, all-left .1, all-come, all-left .0))
+        where
+          told : Gap (none n) arrivals → WholeOnce step packet n x arrivals
+          told g =
+              let at-last = came-behind (g .before) (g .late) (g .last) (g .order) .1 in
+              record {
+                before = g .before;
+                last = g .last;
+                late = g .late;
+                order = g .order;
+                last-gap = last-missing n g;
+                no-other-gap = λ k i differs. no-other-missing n g k i differs;
+                held-or-again = λ a b k e.
+                    let c = came-behind a (b ++ (ours (g .last) ∷ g .late)) k (g .order ∙ ap (λ (l : List Arrival). l ++ (ours (g .last) ∷ g .late)) e ∙ append-assoc a (ours k ∷ b) (ours (g .last) ∷ g .late)) in
+                    c .1 .reply ∙ reply-before n g a b k (c .0) e;
+                whole = at-last .reply ∙ reply-last n g;
+                past = λ a b k e.
+                    came-behind (g .before ++ (ours (g .last) ∷ a)) b k (g .order ∙ ap (λ (l : List Arrival). g .before ++ (ours (g .last) ∷ l)) e ∙ sym (append-assoc (g .before) (ours (g .last) ∷ a) (ours k ∷ b))) .1 .reply
+                    ∙ reply-later n g a k;
+                others = λ a b q e. other-behind a b q e;
+                stays = all-left .0 ∙ ap arrived (all-then n g) ∙ sym (at-last .left);
+              }

@@ -1,4 +1,4 @@
--- Demand 3, delivery: what is asked of what arrives, and what then holds. Definitions alone; `Delivered` has the theorems. Assumes
+-- Demand 3, delivery: what is asked of what arrives, and what then holds. Definitions alone; `Demand3` has the theorems. Assumes
 -- nothing.
 use Prim.Native.Nat.{ℕ, _^_, _≤_, _<_}
 use mathlib.Core.Bool.{Bool, true, false, cond}
@@ -80,8 +80,8 @@ pub data Arrival : Type 0 where
   ours : ℕ → Arrival
   other : List ℕ → Arrival
 
--- "No other packet of that time or a newer one arrives from that source": of any other packet, what the reader of that source may read
--- is neither. What it refuses may be anything.
+-- "No other packet of that time or a newer one arrives from that source": a reader of that source does not read any other packet as one.
+-- What it refuses may be anything.
 abbrev pub Harmless : Stamp → List ℕ → Type 0
 Harmless s q = (said : Packet) → reading (s .source) q ≡ Answer.Said said → (said .time ≡ s .time → ⊥) × (isNewer (said .time) (s .time) ≡ false)
 
@@ -123,22 +123,16 @@ module _ {S : Type 0} (step : S → List ℕ → Outcome S) where
   LeavesAll x q = NotAccepted (step x q .answer) × (step x q .left ≡ x)
 
   module _ (packet : ℕ → List ℕ) where
-    -- What arrivals leave of x.
+    -- What arrivals leave of x, and what packet k then gives.
     abbrev pub leftBy : S → List Arrival → S
     leftBy x arrivals = after step x (map (bytesIn packet) arrivals)
 
-    -- From x on, each reply to a packet of the picture is such a number, and no other packet changes anything.
-    abbrev pub Replied : (ℕ → Type 0) → S → List Arrival → Type 0
-    Replied Number x [] = Unit {0}
-    Replied Number x (ours k ∷ arrivals) = Number (step x (packet k) .answer .reply) × Replied Number (step x (packet k) .left) arrivals
-    Replied Number x (other q ∷ arrivals) = LeavesAll x q × Replied Number (step x q .left) arrivals
-
-    -- What packet k gives behind these arrivals.
     abbrev pub behind : S → List Arrival → ℕ → Outcome S
     behind x arrivals k = step (leftBy x arrivals) (packet k)
 
-    -- "Then 'whole' is answered once, at the packet that fills the last gap": all the others have come before it, and it has not. Up
-    -- to it each reply is held or again, and from then on past; and what it leaves stays.
+    -- "Then 'whole' is answered once, at the packet that fills the last gap": all the others have come before it, and it has not.
+    -- Wherever packet k stands before that, behind some arrivals, the reply is again if it is among these, and held if not; wherever
+    -- it stands later, past. No other packet changes anything, and what the last one leaves stays.
     pub record WholeOnce (n : ℕ) (x : S) (arrivals : List Arrival) : Type 0 where
       pub before : List Arrival
       pub last : ℕ
@@ -146,9 +140,10 @@ module _ {S : Type 0} (step : S → List ℕ → Outcome S) where
       pub order : arrivals ≡ before ++ (ours last ∷ late)
       pub last-gap : comes last before ≡ false
       pub no-other-gap : (k : ℕ) → k < n → (k ≡ last → ⊥) → comes k before ≡ true
-      pub held-or-again : Replied (λ (reply : ℕ). (reply ≡ Reply.held) ⊎ (reply ≡ Reply.again)) x before
+      pub held-or-again : (a b : List Arrival) (k : ℕ) → before ≡ a ++ (ours k ∷ b) → behind x a k .answer .reply ≡ cond (comes k a) Reply.again Reply.held
       pub whole : behind x before last .answer .reply ≡ Reply.whole
-      pub past : Replied (λ (reply : ℕ). reply ≡ Reply.past) (behind x before last .left) late
+      pub past : (a b : List Arrival) (k : ℕ) → late ≡ a ++ (ours k ∷ b) → behind x (before ++ (ours last ∷ a)) k .answer .reply ≡ Reply.past
+      pub others : (a b : List Arrival) (q : List ℕ) → arrivals ≡ a ++ (other q ∷ b) → LeavesAll (leftBy x a) q
       pub stays : leftBy x arrivals ≡ behind x before last .left
 
 -- A picture's tables: as made for Q 1 to 99, else those that it brings.

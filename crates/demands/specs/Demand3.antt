@@ -1,7 +1,7 @@
 -- Demand 3. `Delivery` has what its words mean. Assumes nothing.
 use Prim.Native.Nat.{ℕ, _^_, _<_}
 use mathlib.Core.Bool.{true}
-use mathlib.Core.List.{List, [], _∷_, _++_}
+use mathlib.Core.List.{List, _++_}
 use mathlib.Core.Path.{_≡_, refl, sym, subst, _∙_}
 use native.Mathlib.Omega.{arith}
 use lib.ListN.{length, drop}
@@ -25,21 +25,14 @@ use Rattle.state.specs.Receiver.{fresh}
 use Rattle.state.specs.WellFormed.{wellFormed}
 use Rattle.state.specs.declared.Answer.{Answer}
 use Rattle.wire.specs.Field.{Bytes}
-use Rattle.demands.specs.Arrivals.{whole-once}
+use Rattle.demands.specs.Arrivals.{first-index, whole-once}
 use Rattle.demands.specs.Arrived.{arrived, Ok, other-comes}
-use Rattle.demands.specs.Delivery.Arrival.{ours, other}
 use Rattle.demands.specs.Delivery.{Packets, FromSender, Awaited, Arrival, Arrive, FileHolds, Delivered, Delivers}
 use Rattle.demands.specs.FirstToCome.{beginning, first-comes}
 use Rattle.demands.specs.History.{State, state, History, Outcome, step, after, answers, MeetsContract, the-step, history}
 use Rattle.demands.specs.OneMore.{one-comes}
 use Rattle.demands.specs.Reachable.{reachable}
 use Rattle.demands.specs.Whole.{file-holds}
-
--- the packet of the picture with which the arrivals begin
-first-index : (s : Stamp) (n : ℕ) (arrivals : List Arrival) → Arrive s n arrivals → (k : ℕ) × (k < n)
-first-index s n [] a = absurd (a .from-the-first)
-first-index s n (ours k ∷ arrivals) a = (k, a .no-other .0)
-first-index s n (other q ∷ arrivals) a = absurd (a .from-the-first)
 
 -- from any well-formed receiver with an area as long as its room
 delivered : (s : Stamp) (p : Picture) (cs : List Fragment) (packet : ℕ → List ℕ) (x : State) (arrivals : List Arrival)
@@ -51,8 +44,7 @@ delivered s p cs packet x arrivals well lent ps awaited arrive =
     (λ come ok. ok .0)
     (λ come ok k i. one-comes g come ok k i)
     (λ come ok q bytes harmless. other-comes g come ok q bytes harmless)
-    x arrivals arrive
-    (λ k i. first-comes ps awaited lent well k i) in
+    x (λ k i. first-comes ps awaited lent well k i) arrivals arrive in
     record {
       whole-once = t .0;
       file = subst (FileHolds p) (sym (t .1 .3)) (file-holds g (t .1 .0) (t .1 .1) (t .1 .2) some);
