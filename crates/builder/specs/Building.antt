@@ -19,6 +19,7 @@ use Rattle.state.specs.Receiver.{heldFragments, headerOf}
 use Rattle.state.specs.WellFormed.{wellFormed, WellFormed, well-formed, held-within-room, some-held}
 use Rattle.state.specs.declared.Receiver.{Receiver}
 use Rattle.wire.specs.Lawful.{Lawful, lawful}
+use Rattle.wire.specs.declared.Header.{Header}
 use Rattle.builder.specs.File.{file}
 
 -- 9, 8 and 30, in their order; 31 is against the file's own length.
@@ -34,9 +35,13 @@ wholeCheck r = Reply.not-whole when not (Held.whole (heldFragments r))
 abbrev pub checks : Receiver → List ℕ → List Check
 checks r area = formedCheck r ∷ roomCheck r area ∷ wholeCheck r ∷ []
 
+-- What a head is made of, of a picture's header fields: all but its Q, which is in the tables.
+abbrev pub frameFor : Header → Frame
+frameFor h = record { kind = h .kind; width = h .width; height = h .height; interval = h .interval }
+
 -- What a whole picture's file is made of: its header fields, its tables, and the bytes of the area up to its end.
 abbrev pub frameOf : Receiver → Frame
-frameOf r = record { kind = r .kind; width = r .width; height = r .height; interval = r .interval }
+frameOf r = frameFor (headerOf r)
 
 abbrev pub scanOf : Receiver → List ℕ → List ℕ
 scanOf r area = take (r .end) area

@@ -6,6 +6,7 @@ use mathlib.Core.Path.{_≡_, refl, _∙_}
 use borrow.Author.Tests.{le-ltb, eq-eqb}
 use lib.ListN.{length, take, drop}
 use Rattle.head.specs.Head.{head}
+use Rattle.head.specs.declared.Frame.{Frame}
 use Rattle.laws.specs.Truth.{same}
 use Rattle.laws.specs.Within.{within}
 use Rattle.replies.specs.Checks.{judged, neither, neither-9-nor-8, start, passes, none-left}
@@ -18,13 +19,19 @@ use Rattle.state.specs.declared.Receiver.{Receiver}
 use Rattle.builder.specs.Building.{Builds, Buildable, building, buildable, checks, wholeCheck, frameOf, scanOf, fileOf}
 use Rattle.builder.specs.File.{body, closing, file}
 
+-- The file of these parts is written where there is room for it: the head, then the scan, then the end, and the rest is as it was.
+abbrev pub WritesFile : Frame → List ℕ → List ℕ → List ℕ → Written → List ℕ → Type 0
+WritesFile f tables scan before w after =
+    let n = length (file f tables scan) in
+    n ≤ length before → (w ≡ succeeded n) × (after ≡ head f tables ++ scan ++ closing scan ++ drop n before)
+
 module _ (r : Receiver) (area : List ℕ) {before after : List ℕ} {w : Written} (builds : Builds r area before w after) where
   module _ (b : Buildable r area) where
     passed : judged (checks r area) ≡ Passed
     passed = none-left (passes (passes (passes start (rw (is-well-formed r (b .well)))) (same (length area) (r .room) (b .room))) (rw (b .whole)))
 
-    -- The file of a whole picture is the head, then the scan, then the end, and where there is room for it, it is written.
-    pub whole-built : length (fileOf r area) ≤ length before → (w ≡ succeeded (length (fileOf r area))) × (after ≡ head (frameOf r) (r .tables) ++ scanOf r area ++ closing (scanOf r area) ++ drop (length (fileOf r area)) before)
+    -- The file of a whole picture is of its header fields, its tables and its scan.
+    pub whole-built : WritesFile (frameOf r) (r .tables) (scanOf r area) before w after
     unfolding building file body
     whole-built fits =
         let t = le-ltb (length before) (length (fileOf r area)) fits in

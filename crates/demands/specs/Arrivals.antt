@@ -3,11 +3,12 @@
 use Prim.Native.Nat.{ℕ, _<_}
 use mathlib.Core.Bool.{Bool, true, false, cond, _||_}
 use mathlib.Core.List.{List, [], _∷_, _++_, append-assoc}
+use mathlib.Core.Logic.{_⊎_, inl, inr, ⊎-elim}
 use mathlib.Core.Path.{_≡_, refl, sym, ap, subst, _∙_}
 use borrow.Author.Tests.{ne-eqb}
 use lib.Dec.{eqb}
 use lib.ListN.{length, getD, set}
-use Rattle.laws.specs.Each.{Each}
+use Rattle.laws.specs.Each.{Each, each-parts}
 use Rattle.laws.specs.Truth.{split, never-both, or-none, or-true, or-false, or-assoc}
 use Rattle.replies.specs.Reply
 use Rattle.sender.specs.declared.Stamp.{Stamp}
@@ -17,11 +18,14 @@ use Rattle.demands.specs.Delivery.{Arrival, Allowed, Harmless, comes, Le
 use Rattle.demands.specs.History.{Outcome}
 use Rattle.demands.specs.Sets.{every, none, every-in, some-out, not-every, none-out, in-set, set-in}
 
--- The packets that have come when those of s had, and then these arrivals.
+-- The packets that have come when those of s had, and then this arrival, or these.
+abbrev with : Arrival → List Bool → List Bool
+with (ours k) s = set s k true
+with (other q) s = s
+
 abbrev pub come : List Bool → List Arrival → List Bool
 come s [] = s
-come s (ours k ∷ l) = come (set s k true) l
-come s (other q ∷ l) = come s l
+come s (a ∷ l) = come (with a s) l
 
 -- The reply to packet k when those of s have come.
 abbrev pub replyTo : List Bool → ℕ → ℕ
@@ -43,8 +47,7 @@ in-come s (other q ∷ l) k = in-come s l k
 
 come-append : (s : List Bool) (a b : List Arrival) → come s (a ++ b) ≡ come (come s a) b
 come-append s [] b = refl
-come-append s (ours k ∷ a) b = come-append (set s k true) a b
-come-append s (other q ∷ a) b = come-append s a b
+come-append s (c ∷ a) b = come-append (with c s) a b
 
 -- where all have come, nothing is added
 come-all : (s : List Bool) (l : List Arrival) → every s ≡ true → come s l ≡ s
@@ -64,15 +67,15 @@ record Gap (s : List Bool) (l : List Arrival) : Type 0 where
   is-open : every (come s before) ≡ false
   filled : every (set (come s before) last true) ≡ true
 
+later : (a : Arrival) (s : List Bool) {l : List Arrival} → Gap (with a s) l → Gap s (a ∷ l)
+later a s g = record { before = a ∷ g .before; last = g .last; late = g .late; order = ap (λ (m : List Arrival). a ∷ m) (g .order); is-open = g .is-open; filled = g .filled }
+
 gap : (s : List Bool) (l : List Arrival) → every s ≡ false → every (come s l) ≡ true → Gap s l
 gap s [] o all = absurd (never-both all o)
 gap s (ours k ∷ l) o all = split (every (set s k true))
     (λ full. record { before = []; last = k; late = l; order = refl; is-open = o; filled = full })
-    (λ some. let g = gap (set s k true) l some all in
-    record { before = ours k ∷ g .before; last = g .last; late = g .late; order = ap (λ (m : List Arrival). ours k ∷ m) (g .order); is-open = g .is-open; filled = g .filled })
-gap s (other q ∷ l) o all =
-    let g = gap s l o all in
-    record { before = other q ∷ g .before; last = g .last; late = g .late; order = ap (λ (m : List Arrival). other q ∷ m) (g .order); is-open = g .is-open; filled = g .filled }
+    (λ some. later (ours k) s (gap (set s k true) l some all))
+gap s (other q ∷ l) o all = later (other q) s (gap s l o all)
 
 module _ (n : ℕ) {l : List Arrival} (g : Gap (none n) l) where
   abbrev then : List Bool
@@ -110,10 +113,6 @@ first-index s n [] a = absurd (a .from-the-first)
 first-index s n (ours k ∷ arrivals) a = (k, a .no-other .0)
 first-index s n (other q ∷ arrivals) a = absurd (a .from-the-first)
 
-each-parts : {A : Type 0} (P : A → Type 0) (l m : List A) → Each P (l ++ m) → Each P l × Each P m
-each-parts P [] m h = (tt, h)
-each-parts P (x ∷ l) m h = let t = each-parts P l m (h .1) in ((h .0, t .0), t .1)
-
 module _ {S : Type 0} (step : S → List ℕ → Outcome S) (packet : ℕ → List ℕ) (arrived : List Bool → S) (Ok : List Bool → Type 0) (stamp : Stamp) (n : ℕ)
     (long : (s : List Bool) → Ok s → length s ≡ n)
     (one : (s : List Bool) → Ok s → (k : ℕ) → k < n → Came arrived Ok s k (step (arrived s) (packet k)))
@@ -140,29 +139,29 @@ module _ {S : Type 0} (step : S → List ℕ → Outcome S) (packet : ℕ → Li
         (ap (λ (y : S). leftBy step packet y l) (c .left) ∙ rest .0, rest .1)
 
     module _ (arrivals : List Arrival) (arrive : Arrive stamp n arrivals) where
-      -- at each place
-      came-behind : (a b : List Arrival) (k : ℕ) → arrivals ≡ a ++ (ours k ∷ b) → (k < n) × Came arrived Ok (come (none n) a) k (behind step packet x a k)
-      came-behind a b k e = go a (subst BeginsWithOurs e (arrive .from-the-first)) (subst (Each (Allowed stamp n)) e (arrive .no-other))
+      -- At each place: what comes there is allowed, and it comes to x, or to the state after what has come.
+      place : (a b : List Arrival) (c : Arrival) → arrivals ≡ a ++ (c ∷ b) → Allowed stamp n c × ((a ≡ []) ⊎ ((leftBy step packet x a ≡ arrived (come (none n) a)) × Ok (come (none n) a)))
+      place a b c e =
+          let parts = each-parts (Allowed stamp n) a (c ∷ b) (subst (Each (Allowed stamp n)) e (arrive .no-other)) in
+          (parts .1 .0, go a (subst BeginsWithOurs e (arrive .from-the-first)) (parts .0))
         where
-          go : (a : List Arrival) → BeginsWithOurs (a ++ (ours k ∷ b)) → Each (Allowed stamp n) (a ++ (ours k ∷ b)) → (k < n) × Came arrived Ok (come (none n) a) k (behind step packet x a k)
-          go [] begins h = (h .0, first k (h .0))
+          go : (a : List Arrival) → BeginsWithOurs (a ++ (c ∷ b)) → Each (Allowed stamp n) a → (a ≡ []) ⊎ ((leftBy step packet x a ≡ arrived (come (none n) a)) × Ok (come (none n) a))
+          go [] begins h = inl refl
+          go (ours j ∷ a) begins h = inr (from-x (ours j ∷ a) tt h)
           go (other q ∷ a) begins h = absurd begins
-          go (ours j ∷ a) begins h =
-              let parts = each-parts (Allowed stamp n) (ours j ∷ a) (ours k ∷ b) h in
-              let t = from-x (ours j ∷ a) tt (parts .0) in
-              (parts .1 .0, subst (λ (y : S). Came arrived Ok (come (none n) (ours j ∷ a)) k (step y (packet k))) (sym (t .0)) (one (come (none n) (ours j ∷ a)) (t .1) k (parts .1 .0)))
+
+      came-behind : (a b : List Arrival) (k : ℕ) → arrivals ≡ a ++ (ours k ∷ b) → (k < n) × Came arrived Ok (come (none n) a) k (behind step packet x a k)
+      came-behind a b k e = let p = place a b (ours k) e in (
+        p .0,
+        ⊎-elim (λ none-yet. subst (λ (l : List Arrival). Came arrived Ok (come (none n) l) k (behind step packet x l k)) (sym none-yet) (first k (p .0)))
+            (λ t. subst (λ (y : S). Came arrived Ok (come (none n) a) k (step y (packet k))) (sym (t .0)) (one (come (none n) a) (t .1) k (p .0))) (p .1),
+      )
 
       other-behind : (a b : List Arrival) (q : List ℕ) → arrivals ≡ a ++ (other q ∷ b) → LeavesAll step (leftBy step packet x a) q
-      other-behind a b q e = go a (subst BeginsWithOurs e (arrive .from-the-first)) (subst (Each (Allowed stamp n)) e (arrive .no-other))
-        where
-          go : (a : List Arrival) → BeginsWithOurs (a ++ (other q ∷ b)) → Each (Allowed stamp n) (a ++ (other q ∷ b)) → LeavesAll step (leftBy step packet x a) q
-          go [] begins h = absurd begins
-          go (other p ∷ a) begins h = absurd begins
-          go (ours j ∷ a) begins h =
-              let parts = each-parts (Allowed stamp n) (ours j ∷ a) (other q ∷ b) h in
-              let t = from-x (ours j ∷ a) tt (parts .0) in
-              let allowed = parts .1 .0 in
-              subst (λ (y : S). LeavesAll step y q) (sym (t .0)) (another (come (none n) (ours j ∷ a)) (t .1) q (allowed .0) (allowed .1))
+      other-behind a b q e =
+          let p = place a b (other q) e in
+          ⊎-elim (λ none-yet. absurd (subst BeginsWithOurs (e ∙ ap (λ (l : List Arrival). l ++ (other q ∷ b)) none-yet) (arrive .from-the-first)))
+          (λ t. subst (λ (y : S). LeavesAll step y q) (sym (t .0)) (another (come (none n) a) (t .1) q (p .0 .0) (p .0 .1))) (p .1)
 
       all-left : (leftBy step packet x arrivals ≡ arrived (come (none n) arrivals)) × Ok (come (none n) arrivals)
       all-left = from-x arrivals (arrive .from-the-first) (arrive .no-other)

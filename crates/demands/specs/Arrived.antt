@@ -30,10 +30,9 @@ use Rattle.wire.specs.declared.Packet.{Packet}
 use Rattle.wire.specs.declared.Reading.the-variants as Answer
 use Rattle.wire.specs.declared.Reading.{Reading}
 use Rattle.demands.specs.CutsIn.{cutsIn}
-use Rattle.demands.specs.Delivery.{Packets, HasTables, Harmless, LeavesAll, tablesFor}
+use Rattle.demands.specs.Delivery.{Packets, bringsTables, HasTables, Harmless, LeavesAll, thoseTables}
 use Rattle.demands.specs.Filled.{filled, length-filled}
 use Rattle.demands.specs.History.{State, state, step}
-use Rattle.demands.specs.Says.{bringsTables}
 
 -- A picture that a receiver has begun: its packets, the receiver as it began, and the area as it was then.
 pub record Begun : Type 0 where
@@ -61,7 +60,7 @@ module _ (g : Begun) (come : List Bool) where
   abbrev pub receiverWith : Receiver
   receiverWith =
       holding (g .receiver) (cutsIn come (g .cuts))
-      (cond (getD come 0 true) (tablesFor (g .picture)) blank)
+      (cond (getD come 0 true) (thoseTables (g .picture)) blank)
       (cond (getD come 0 true) (keptWith (g .receiver .kept) (g .picture)) (g .receiver .kept))
 
   abbrev pub areaWith : List ℕ

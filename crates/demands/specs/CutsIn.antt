@@ -3,14 +3,13 @@ use Prim.Native.Nat.{ℕ, zero, suc, _+_, _≤_, _<_}
 use mathlib.Core.Bool.{Bool, true, false}
 use mathlib.Core.List.{List, [], _∷_}
 use mathlib.Core.Logic.{_⊎_, inl, inr}
-use mathlib.Core.Path.{_≡_, refl, sym, ap, _∙_}
+use mathlib.Core.Path.{_≡_, refl, sym, ap}
 use native.Mathlib.Omega.{arith}
-use borrow.Author.Tests.{lt-ltb, le-ltb, eq-eqb, ne-eqb}
-use lib.Dec.{eqb, eqb·suc-zero}
+use borrow.Author.Tests.{lt-ltb, le-ltb}
 use lib.ListN.{length, getD, set}
 use Rattle.fragments.specs.Clash.{isMarked, Clear}
 use Rattle.fragments.specs.Fragments.{stop, fragmentAt}
-use Rattle.fragments.specs.Held.{total, endOf, whole, total-within, not-known, not-reached, is-reached}
+use Rattle.fragments.specs.Held.{total, endOf, whole, total-within, tiles-total, tiles-end, not-known, not-reached, is-reached}
 use Rattle.fragments.specs.Insertion.{insert, place}
 use Rattle.fragments.specs.Order.{InOrder, EndBy}
 use Rattle.fragments.specs.Shared.{share, unshared, unshared-behind}
@@ -142,16 +141,7 @@ module _ (end : ℕ) where
       within n (inl z) = absurd (omega arith)
       within n (inr z) = rw z (tiles-inside start cs end k t i .to)
 
-  -- All the cuts add up to the scan, and the end is known; some of them add up to less.
-  pub tiles-total : (start : ℕ) (cs : List Fragment) → Tiles start cs end → start + total cs ≡ end
-  tiles-total start [] t = omega arith
-  tiles-total start (c ∷ cs) t = omega (arith, tiles-total (stop c) cs (t .3))
-
-  pub tiles-end : (start : ℕ) (cs : List Fragment) → start < end → Tiles start cs end → endOf cs ≡ end
-  tiles-end start [] n t = absurd (omega arith)
-  tiles-end start (c ∷ []) n t = rw (t .2) (t .3)
-  tiles-end start (c ∷ d ∷ cs) n t = rw (t .2) (tiles-end (stop c) (d ∷ cs) (omega (arith, tiles-inside (stop c) (d ∷ cs) end 0 (t .3) (omega arith) .some, tiles-inside (stop c) (d ∷ cs) end 0 (t .3) (omega arith) .to, t .3 .0)) (t .3))
-
+  -- Some of the cuts, not all, add up to less than the scan.
   in-less : (start : ℕ) (s : List Bool) (cs : List Fragment) → Tiles start cs end → length s ≡ length cs → every s ≡ false → start + total (cutsIn s cs) < end
   in-less start [] cs t l w = absurd (never-both refl w)
   in-less start (b ∷ s) [] t l w = absurd (omega arith)
@@ -162,7 +152,7 @@ module _ (end : ℕ) where
   -- So a picture is whole when all of its cuts are in the set, and not before.
   pub whole-in : (s : List Bool) (cs : List Fragment) → 0 < end → Tiles 0 cs end → length s ≡ length cs → whole (cutsIn s cs) ≡ every s
   whole-in s cs n t l = split (every s)
-      (λ w. rw (w, cuts-in-all s cs l w) (let e = tiles-end 0 cs n t in is-reached (endOf cs) (total cs) (λ z. omega arith) (omega (arith, tiles-total 0 cs t))))
+      (λ w. rw (w, cuts-in-all s cs l w) (let e = tiles-end end 0 cs n t in is-reached (endOf cs) (total cs) (λ z. omega arith) (omega (arith, tiles-total end 0 cs t))))
       (λ w. rw w (unknown (end-known 0 s cs t) (in-less 0 s cs t l w)))
     where
       fs : List Fragment
@@ -171,9 +161,3 @@ module _ (end : ℕ) where
       unknown : (endOf fs ≡ 0) ⊎ (endOf fs ≡ end) → 0 + total fs < end → whole fs ≡ false
       unknown (inl z) h = not-known (endOf fs) (total fs) z
       unknown (inr z) h = not-reached (endOf fs) (total fs) (λ e. omega arith)
-
--- The first cut alone is at offset 0.
-pub first-offset : (end : ℕ) (cs : List Fragment) (k : ℕ) → Tiles 0 cs end → k < length cs → eqb (fragmentAt cs k .offset) 0 ≡ eqb k 0
-first-offset end [] k t i = absurd (omega arith)
-first-offset end (c ∷ cs) zero t i = eq-eqb (c .offset) 0 (t .0)
-first-offset end (c ∷ cs) (suc k) t i = ne-eqb (fragmentAt cs k .offset) 0 (λ z. omega (arith, t, tiles-inside (stop c) cs end k (t .3) (omega arith) .from)) ∙ sym (eqb·suc-zero k)

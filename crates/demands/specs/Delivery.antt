@@ -1,24 +1,21 @@
 -- Demand 3, delivery: what is asked of what arrives, and what then holds. Definitions alone; `Demand3` has the theorems. Assumes
 -- nothing.
 use Prim.Native.Nat.{ℕ, _^_, _≤_, _<_}
-use mathlib.Core.Bool.{Bool, true, false, cond}
+use mathlib.Core.Bool.{Bool, true, false, cond, not}
 use mathlib.Core.List.{List, [], _∷_, _++_, map}
 use mathlib.Core.Logic.{_⊎_}
 use mathlib.Core.Path.{_≡_}
 use lib.Dec.{eqb}
-use lib.ListN.{length, take, drop}
-use Rattle.builder.specs.Building.{Builds}
-use Rattle.builder.specs.File.{closing, file}
+use lib.ListN.{length, take}
+use Rattle.builder.specs.Building.{Builds, frameFor}
+use Rattle.builder.specs.Built.{WritesFile}
 use Rattle.fragments.specs.Fragments.{fragmentAt}
 use Rattle.fragments.specs.Tiles.{Tiles}
 use Rattle.fragments.specs.declared.Fragment.{Fragment}
-use Rattle.head.specs.Head.{head}
-use Rattle.head.specs.declared.Frame.{Frame}
 use Rattle.laws.specs.Any.{any}
 use Rattle.laws.specs.Each.{Each}
 use Rattle.laws.specs.Within.{within, Between}
 use Rattle.receiver.specs.Time.{isNewer}
-use Rattle.replies.specs.Output.{succeeded}
 use Rattle.replies.specs.Reply
 use Rattle.replies.specs.declared.Written.{Written}
 use Rattle.sender.specs.Cuts.{cuts}
@@ -30,7 +27,6 @@ use Rattle.state.specs.Receiver.{fresh}
 use Rattle.tables.specs.Quantiser.{tablesOf}
 use Rattle.wire.specs.Field.{Bytes}
 use Rattle.wire.specs.Reading.{reading}
-use Rattle.wire.specs.declared.Header.{Header}
 use Rattle.wire.specs.declared.Packet.{Packet}
 use Rattle.wire.specs.declared.Reading.the-variants as Answer
 use Rattle.demands.specs.History.{State, state, NotAccepted, Outcome, after}
@@ -64,8 +60,11 @@ pub record FromSender (s : Stamp) (p : Picture) (size : ℕ) (packet : ℕ → L
   pub each : (k : ℕ) → k < length (cuts size p) → WrittenBySender s p size k (packet k)
 
 -- "has Q 1 to 99 or brings its tables"
+abbrev pub bringsTables : Picture → Bool
+bringsTables p = not (eqb (length (p .tables)) 0)
+
 abbrev pub HasTables : Picture → Type 0
-HasTables p = Between 1 99 (p .header .q) ⊎ (length (p .tables) ≡ 128)
+HasTables p = Between 1 99 (p .header .q) ⊎ (bringsTables p ≡ true)
 
 -- "The picture bears the receiver's source, is newer than the picture held, if any, fits the area, and has Q 1 to 99 or brings its
 -- tables", when the first of its packets comes to the state x.
@@ -75,7 +74,7 @@ pub record Awaited (s : Stamp) (p : Picture) (x : State) : Type 0 where
   pub fits-the-area : length (p .scan) ≤ length (x .area)
   pub has-tables : HasTables p
 
--- A packet that comes: packet k of the picture, or another one, of any bytes.
+-- A packet that comes: packet k of the picture, or another one.
 pub data Arrival : Type 0 where
   ours : ℕ → Arrival
   other : List ℕ → Arrival
@@ -146,24 +145,13 @@ module _ {S : Type 0} (step : S → List ℕ → Outcome S) where
       pub others : (a b : List Arrival) (q : List ℕ) → arrivals ≡ a ++ (other q ∷ b) → LeavesAll (leftBy x a) q
       pub stays : leftBy x arrivals ≡ behind x before last .left
 
--- A picture's tables: as made for Q 1 to 99, else those that it brings.
-abbrev pub tablesFor : Picture → List ℕ
-tablesFor p = cond (within 1 99 (p .header .q)) (tablesOf (p .header .q)) (p .tables)
-
-abbrev pub frameFor : Header → Frame
-frameFor h = record { kind = h .kind; width = h .width; height = h .height; interval = h .interval }
-
-abbrev pub lengthOfFile : Picture → ℕ
-lengthOfFile p = length (file (frameFor (p .header)) (tablesFor p) (p .scan))
+-- "those tables": as made for Q 1 to 99, else those that the picture brings
+abbrev pub thoseTables : Picture → List ℕ
+thoseTables p = cond (within 1 99 (p .header .q)) (tablesOf (p .header .q)) (p .tables)
 
 -- "and the file holds that scan and those tables": whatever `build` is lent to write into, if it is long enough.
 abbrev pub FileHolds : Picture → State → Type 0
-FileHolds p x =
-    (output : List ℕ) (w : Written) (built : List ℕ)
-    → Builds (x .receiver) (x .area) output w built
-    → lengthOfFile p ≤ length output
-    → (w ≡ succeeded (lengthOfFile p))
-    × (built ≡ head (frameFor (p .header)) (tablesFor p) ++ p .scan ++ closing (p .scan) ++ drop (lengthOfFile p) output)
+FileHolds p x = (output : List ℕ) (w : Written) (built : List ℕ) → Builds (x .receiver) (x .area) output w built → WritesFile (frameFor (p .header)) (thoseTables p) (p .scan) output w built
 
 -- Delivered by a step, from a state on.
 pub record Delivered (step : State → List ℕ → Outcome State) (p : Picture) (n : ℕ) (packet : ℕ → List ℕ) (x : State) (arrivals : List Arrival) : Type 0 where

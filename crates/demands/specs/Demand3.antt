@@ -17,9 +17,9 @@ use Rattle.sender.specs.Cuts.{cuts}
 use Rattle.sender.specs.Packet.{packet}
 use Rattle.sender.specs.PacketBytes.{packet-bytes}
 use Rattle.sender.specs.Picture.{Picture}
-use Rattle.sender.specs.ReadBack.{ReadBack}
+use Rattle.sender.specs.ReadBack.{Cut, ReadBack, cut-read-back}
 use Rattle.sender.specs.Sending.{checks, sending}
-use Rattle.sender.specs.Sent.{Sent, sent, sent-cut, success-read-back}
+use Rattle.sender.specs.Sent.{Sent, sent, sent-cut}
 use Rattle.sender.specs.declared.Stamp.{Stamp}
 use Rattle.state.specs.Receiver.{fresh}
 use Rattle.state.specs.WellFormed.{wellFormed}
@@ -73,23 +73,26 @@ delivers-itself source room area earlier range long bytes =
 pub delivers : (f : State → List ℕ → Outcome State) → MeetsContract f → Delivers f
 delivers f met = subst Delivers (the-step f met) delivers-itself
 
--- Our sender's packets are such packets,
-from-sender : (s : Stamp) (p : Picture) (size : ℕ) (packet : ℕ → List ℕ) → FromSender s p size packet → (k : ℕ) → k < length (cuts size p) → Packets s p (cuts size p) packet
-from-sender s p size packet f k i =
-    let cut = sent-cut s p size k (call k i .ok) (f .time) (f .source) in
-    record {
-      sendable = cut .sendable;
-      tile = cut .tiles;
-      few = cut .few;
-      read-back = λ j within. let c = f .each j within in subst (ReadBack s p (fragmentAt (cuts size p) j)) (sym (c .written)) (success-read-back p size s j (c .sends) (c .with-reply-0) (f .time) (f .source));
-      bytes = λ j within. let c = f .each j within in
-          subst Bytes (sym (c .written ∙ call j within .front)) (packet-bytes s p j (fragmentAt (cuts size p) j) (cut .sendable .header) (f .tables) (f .scan) (tiles-inside 0 (cuts size p) (length (p .scan)) j (cut .tiles) within .marker));
-    }
+-- Packets as our sender makes them are such packets, however the scan is cut,
+pub cut-packets : (s : Stamp) (p : Picture) (cs : List Fragment) (packets : ℕ → List ℕ) → Cut s p cs → Bytes (p .tables) → Bytes (p .scan) → ((k : ℕ) → k < length cs → packet s p k (fragmentAt cs k) ≡ packets k) → Packets s p cs packets
+cut-packets s p cs packets cut tables scan same = record {
+  sendable = cut .sendable;
+  tile = cut .tiles;
+  few = cut .few;
+  read-back = λ k i. subst (ReadBack s p (fragmentAt cs k)) (same k i) (cut-read-back cut k i);
+  bytes = λ k i. subst Bytes (same k i) (packet-bytes s p k (fragmentAt cs k) (cut .sendable .header) tables scan (tiles-inside 0 cs (length (p .scan)) k (cut .tiles) i .marker));
+}
+
+-- so those that it has written are,
+from-sender : (s : Stamp) (p : Picture) (size : ℕ) (packets : ℕ → List ℕ) → FromSender s p size packets → (k : ℕ) → k < length (cuts size p) → Packets s p (cuts size p) packets
+from-sender s p size packets f k i =
+    cut-packets s p (cuts size p) packets (sent-cut s p size k (call k i .ok) (f .time) (f .source)) (f .tables) (f .scan)
+    (λ j within. sym (f .each j within .written ∙ call j within .front))
   where
     call : (j : ℕ) (within : j < length (cuts size p)) → Sent p size s j (f .each j within .answer) (f .each j within .left)
     call j within = let c = f .each j within in sent p size s j (c .sends) (c .with-reply-0)
 
--- and so they are delivered.
+-- and they are delivered.
 pub sent-delivery : (source room : ℕ) (earlier : List (List ℕ)) (answered : List Answer) (x : State) → History source room earlier answered x
     → (s : Stamp) (p : Picture) (size : ℕ) (packet : ℕ → List ℕ) (arrivals : List Arrival)
     → FromSender s p size packet → Awaited s p x → Arrive s (length (cuts size p)) arrivals → Delivered step p (length (cuts size p)) packet x arrivals

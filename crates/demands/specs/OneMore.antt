@@ -42,9 +42,10 @@ use Rattle.wire.specs.declared.Reading.the-variants as Answer
 use Rattle.demands.specs.Arrivals.{replyTo, Came}
 use Rattle.demands.specs.Arrived.{Begun, receiverWith, areaWith, arrived, Ok, leaves, area-lent, held-cuts}
 use Rattle.demands.specs.CutsIn.{cutsIn, any-cut, length-cuts-in, cut-inserted, cut-clear, whole-in}
+use Rattle.demands.specs.Delivery.{bringsTables}
 use Rattle.demands.specs.Filled.{filled, put-filled, bytes-filled}
 use Rattle.demands.specs.History.{state, step}
-use Rattle.demands.specs.Says.{bringsTables, Says, says, own-tables, given-own, brings-keepable}
+use Rattle.demands.specs.Says.{Says, says, own-tables, given-own, brings-keepable}
 use Rattle.demands.specs.Sets.{every, every-in, in-set, set-in, swapped}
 
 module _ (g : Begun) (come : List Bool) (ok : Ok g come) (k : ℕ) (i : k < length (g .cuts)) where
@@ -66,7 +67,7 @@ module _ (g : Begun) (come : List Bool) (ok : Ok g come) (k : ℕ) (i : k < leng
   abbrev area : List ℕ
   area = areaWith g come
 
-  -- the sets with it
+  -- the set with it
   abbrev then : List Bool
   then = set come k true
 

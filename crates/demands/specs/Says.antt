@@ -4,14 +4,16 @@ use mathlib.Core.Bool.{Bool, true, false, cond, not, _&&_}
 use mathlib.Core.List.{List, []}
 use mathlib.Core.Logic.{⊎-elim}
 use mathlib.Core.Path.{_≡_, refl, sym, ap, _∙_}
+use native.Mathlib.Omega.{arith}
 use lib.Dec.{eqb}
 use lib.ListN.{length}
 use Rattle.fragments.specs.Fragments.{fragmentAt, bytesOf}
+use Rattle.fragments.specs.Tiles.{first-offset}
 use Rattle.fragments.specs.declared.Fragment.{Fragment}
 use Rattle.kept.specs.Kept.{isKeepable}
 use Rattle.kept.specs.declared.Kept.{Kept}
 use Rattle.laws.specs.Truth.{never-both}
-use Rattle.laws.specs.Within.{is-within}
+use Rattle.laws.specs.Within.{is-within, is-over}
 use Rattle.receiver.specs.FirstPacket.{isFirst, brings, givenFrom, given}
 use Rattle.receiver.specs.Verdict.{fragmentOf}
 use Rattle.sender.specs.Fit.{none-or-full}
@@ -21,17 +23,12 @@ use Rattle.sender.specs.declared.Stamp.{Stamp}
 use Rattle.tables.specs.Quantiser.{tablesOf}
 use Rattle.wire.specs.Readable.{filled-already}
 use Rattle.wire.specs.Reading.{reading, scanIn, filledUp, tablesIn}
-use Rattle.wire.specs.TableSource.{tableSource, isMade, isInBand, isKeptOrBrought, made-within}
+use Rattle.wire.specs.TableSource.{tableSource, isMade, made-within, kept-or-brought-between, in-band-not-made}
 use Rattle.wire.specs.declared.Packet.{Packet}
 use Rattle.wire.specs.declared.Reading.the-variants as Answer
 use Rattle.wire.specs.declared.TableSource.the-variants.{Made, KeptOrBrought, AlwaysBrought, Reserved}
 use Rattle.wire.specs.declared.TableSource.{TableSource}
-use Rattle.demands.specs.CutsIn.{first-offset}
-use Rattle.demands.specs.Delivery.{Packets, HasTables, tablesFor}
-
--- A picture brings tables.
-abbrev pub bringsTables : Picture → Bool
-bringsTables p = not (eqb (length (p .tables)) 0)
+use Rattle.demands.specs.Delivery.{Packets, bringsTables, HasTables, thoseTables}
 
 -- Packet k of a picture says cut k, and brings the tables if it is the first.
 pub record Says (s : Stamp) (p : Picture) (cs : List Fragment) (k : ℕ) (bytes : List ℕ) : Type 0 where
@@ -47,21 +44,15 @@ pub record Says (s : Stamp) (p : Picture) (cs : List Fragment) (k : ℕ) (bytes 
 
 -- ---- laws
 
-in-band-not-made : (t : TableSource) → isInBand t ≡ true → isMade t ≡ false
-in-band-not-made Made e = sym e
-in-band-not-made KeptOrBrought e = refl
-in-band-not-made AlwaysBrought e = refl
-in-band-not-made Reserved e = refl
-
 module _ {s : Stamp} {p : Picture} (sendable : Sendable s p) where
   -- tables that it brings are 128 bytes, and its own
-  brought : bringsTables p ≡ true → (length (p .tables) ≡ 128) × (tablesFor p ≡ p .tables)
+  brought : bringsTables p ≡ true → (length (p .tables) ≡ 128) × (thoseTables p ≡ p .tables)
   brought e = ⊎-elim
       (λ none. absurd (never-both e (rw (none .0))))
       (λ full. (full .1, ap (λ (b : Bool). cond b (tablesOf (p .header .q)) (p .tables)) (sym (made-within (p .header .q)) ∙ in-band-not-made (tableSource (p .header .q)) (full .0))))
       (none-or-full (tableSource (p .header .q)) (p .tables) (sendable .tables))
 
-  pub own-tables : bringsTables p ≡ true → tablesFor p ≡ p .tables
+  pub own-tables : bringsTables p ≡ true → thoseTables p ≡ p .tables
   own-tables e = brought e .1
 
   module _ (has : HasTables p) where
@@ -69,21 +60,21 @@ module _ {s : Stamp} {p : Picture} (sendable : Sendable s p) where
     brings-else : isMade (tableSource (p .header .q)) ≡ false → bringsTables p ≡ true
     brings-else e = ⊎-elim
         (λ range. absurd (never-both (is-within 1 99 (p .header .q) (range .0) (range .1)) (sym (made-within (p .header .q)) ∙ e)))
-        (λ full. rw full)
+        (λ own. own)
         has
 
     -- what its first packet gives are its tables, whatever is kept
-    pub given-own : (k : Kept) (bytes : List ℕ) (said : Packet) → said .header .q ≡ p .header .q → brings said ≡ bringsTables p → (bringsTables p ≡ true → tablesIn bytes said ≡ p .tables) → given k bytes said ≡ tablesFor p
+    pub given-own : (k : Kept) (bytes : List ℕ) (said : Packet) → said .header .q ≡ p .header .q → brings said ≡ bringsTables p → (bringsTables p ≡ true → tablesIn bytes said ≡ p .tables) → given k bytes said ≡ thoseTables p
     unfolding given
     given-own k bytes said q b t = ap (λ (n : ℕ). givenFrom (tableSource n) k bytes said) q ∙ go (tableSource (p .header .q)) refl
       where
-        made : isMade (tableSource (p .header .q)) ≡ true → tablesOf (p .header .q) ≡ tablesFor p
+        made : isMade (tableSource (p .header .q)) ≡ true → tablesOf (p .header .q) ≡ thoseTables p
         made e = rw (sym (made-within (p .header .q)) ∙ e)
 
-        own : isMade (tableSource (p .header .q)) ≡ false → tablesIn bytes said ≡ tablesFor p
+        own : isMade (tableSource (p .header .q)) ≡ false → tablesIn bytes said ≡ thoseTables p
         own e = t (brings-else e) ∙ sym (own-tables (brings-else e))
 
-        go : (source : TableSource) → tableSource (p .header .q) ≡ source → givenFrom source k bytes said ≡ tablesFor p
+        go : (source : TableSource) → tableSource (p .header .q) ≡ source → givenFrom source k bytes said ≡ thoseTables p
         go Made e = ap tablesOf q ∙ made (rw e)
         go KeptOrBrought e = rw (b, brings-else (rw e)) (own (rw e))
         go AlwaysBrought e = own (rw e)
@@ -91,13 +82,7 @@ module _ {s : Stamp} {p : Picture} (sendable : Sendable s p) where
 
     -- and it is never bare
     pub brings-keepable : isKeepable (p .header .q) ≡ true → bringsTables p ≡ true
-    brings-keepable e = brings-else (other (tableSource (p .header .q)) e)
-      where
-        other : (t : TableSource) → isKeptOrBrought t ≡ true → isMade t ≡ false
-        other Made e = sym e
-        other KeptOrBrought e = refl
-        other AlwaysBrought e = refl
-        other Reserved e = refl
+    brings-keepable e = brings-else (made-within (p .header .q) ∙ is-over 1 99 (p .header .q) (omega (arith, kept-or-brought-between (p .header .q) e)))
 
 module _ {s : Stamp} {p : Picture} {cs : List Fragment} {packet : ℕ → List ℕ} (ps : Packets s p cs packet) (k : ℕ) (i : k < length cs) where
   pub says : Says s p cs k (packet k)

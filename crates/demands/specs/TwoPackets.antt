@@ -4,7 +4,7 @@ use Prim.Native.Nat.{ℕ, zero, suc, _+_, _≤_, _<_}
 use mathlib.Core.Bool.{true}
 use mathlib.Core.List.{List, [], _∷_, map}
 use mathlib.Core.Logic.{inl, inr}
-use mathlib.Core.Path.{_≡_, refl, sym, ap, subst, _∙_}
+use mathlib.Core.Path.{_≡_, refl, sym, ap, _∙_}
 use native.Mathlib.Omega.{arith}
 use lib.ListN.{length, getD, replicate}
 use Rattle.fragments.specs.Array.{noFragments, padded}
@@ -28,7 +28,7 @@ use Rattle.replies.specs.declared.Judged.the-variants.{Passed}
 use Rattle.sender.specs.Cuts.{capacity, cuts}
 use Rattle.sender.specs.Packet as Sender
 use Rattle.sender.specs.Picture.{Picture, picture}
-use Rattle.sender.specs.ReadBack.{Cut, ReadBack, cut-read-back}
+use Rattle.sender.specs.ReadBack.{Cut}
 use Rattle.sender.specs.Sending.{checks}
 use Rattle.sender.specs.declared.Stamp.{Stamp}
 use Rattle.state.specs.Receiver.{fresh}
@@ -48,7 +48,7 @@ use Rattle.wire.specs.declared.Reading.{Reading}
 use Rattle.demands.specs.BothSides.{plain, both-sides}
 use Rattle.demands.specs.Delivery.Arrival.{ours, other}
 use Rattle.demands.specs.Delivery.{Packets, Awaited, Arrival, Harmless, comes, Arrive, bytesIn, Delivered}
-use Rattle.demands.specs.Demand3.{delivers, sent-delivery, packets-sent}
+use Rattle.demands.specs.Demand3.{delivers, cut-packets, sent-delivery, packets-sent}
 use Rattle.demands.specs.History.{State, state, step, after, answers, history}
 use Rattle.demands.specs.Transcript.{first, second}
 
@@ -141,16 +141,7 @@ cut = record {
 
 packets : Packets stamp four cs inTranscript
 unfolding Sender.packet Sender.restartHeader Sender.tableHeader restartsOf tableSource within spelled
-packets = record {
-  sendable = cut .sendable;
-  tile = cut .tiles;
-  few = cut .few;
-  read-back = λ k i. subst (ReadBack stamp four (fragmentAt cs k)) (same k i) (cut-read-back cut k i);
-  bytes = of-two (λ (k : ℕ). Bytes (inTranscript k)) (omega arith) (omega arith);
-}
-  where
-    same : (k : ℕ) → k < 2 → Sender.packet stamp four k (fragmentAt cs k) ≡ inTranscript k
-    same = of-two (λ (k : ℕ). Sender.packet stamp four k (fragmentAt cs k) ≡ inTranscript k) refl refl
+packets = cut-packets stamp four cs inTranscript cut tt (omega arith) (of-two (λ (k : ℕ). Sender.packet stamp four k (fragmentAt cs k) ≡ inTranscript k) refl refl)
 
 earlier : Each Bytes (older ∷ [])
 earlier = let b : Bytes older = omega arith in (b, tt)

@@ -1,34 +1,24 @@
 -- The file of a picture of which every packet has come. Assumes nothing.
-use Prim.Native.Nat.{ℕ, _≤_, _<_}
+use Prim.Native.Nat.{ℕ, _<_}
 use mathlib.Core.Bool.{Bool, true}
-use mathlib.Core.List.{List, _++_}
+use mathlib.Core.List.{List}
 use mathlib.Core.Path.{_≡_, sym, ap, subst, _∙_}
 use native.Mathlib.Omega.{arith}
-use lib.ListN.{length, take, drop}
-use Rattle.builder.specs.Building.{Buildable, frameOf, scanOf}
-use Rattle.builder.specs.Built.{whole-built}
-use Rattle.builder.specs.File.{closing, file}
+use lib.ListN.{length, take}
+use Rattle.builder.specs.Building.{Buildable, frameFor, frameOf, scanOf}
+use Rattle.builder.specs.Built.{WritesFile, whole-built}
+use Rattle.builder.specs.File.{file}
 use Rattle.fragments.specs.Array.{held-padded}
-use Rattle.fragments.specs.Held.{total, endOf}
+use Rattle.fragments.specs.Held.{total, endOf, tiles-total, tiles-end}
 use Rattle.fragments.specs.declared.Fragment.{Fragment}
-use Rattle.head.specs.Head.{head}
 use Rattle.head.specs.declared.Frame.{Frame}
-use Rattle.replies.specs.Output.{succeeded}
-use Rattle.replies.specs.declared.Written.{Written}
 use Rattle.state.specs.WellFormed.{well-formed}
 use Rattle.state.specs.declared.Receiver.{Receiver}
 use Rattle.demands.specs.Arrived.{Begun, receiverWith, areaWith, arrived, Ok, area-lent}
-use Rattle.demands.specs.CutsIn.{cutsIn, cuts-in-all, in-order, end-by, tiles-total, tiles-end, whole-in}
-use Rattle.demands.specs.Delivery.{FileHolds, frameFor, tablesFor}
+use Rattle.demands.specs.CutsIn.{cutsIn, cuts-in-all, in-order, end-by, whole-in}
+use Rattle.demands.specs.Delivery.{FileHolds, thoseTables}
 use Rattle.demands.specs.Filled.{front-filled}
 use Rattle.demands.specs.Sets.{every, every-in}
-
--- What is written for a file of these parts.
-abbrev WrittenFor : List ℕ → Written → List ℕ → Frame → List ℕ → List ℕ → Type 0
-WrittenFor output w built f tables scan =
-    length (file f tables scan) ≤ length output
-    → (w ≡ succeeded (length (file f tables scan)))
-    × (built ≡ head f tables ++ scan ++ closing scan ++ drop (length (file f tables scan)) output)
 
 module _ (g : Begun) (come : List Bool) (ok : Ok g come) (all : every come ≡ true) (some : 0 < length (g .picture .scan)) where
   abbrev scan : List ℕ
@@ -52,7 +42,7 @@ module _ (g : Begun) (come : List Bool) (ok : Ok g come) (all : every come ≡ t
       ∙ front-filled fs scan (g .area) (in-order (length scan) 0 0 come (g .cuts) (omega arith) (g .packets .tile)) (end-by (length scan) 0 come (g .cuts) (g .packets .tile))
       (omega (arith, ap total all-cuts, tiles-total (length scan) 0 (g .cuts) (g .packets .tile))) (g .fits)
 
-  same-tables : r .tables ≡ tablesFor (g .picture)
+  same-tables : r .tables ≡ thoseTables (g .picture)
   same-tables = rw (every-in come 0 all)
 
   same-frame : frameOf r ≡ frameFor (g .picture .header)
@@ -67,7 +57,7 @@ module _ (g : Begun) (come : List Bool) (ok : Ok g come) (all : every come ≡ t
 
   pub file-holds : FileHolds (g .picture) (arrived g come)
   file-holds output w built builds =
-      subst (λ (f : Frame). WrittenFor output w built f (tablesFor (g .picture)) scan) same-frame
-      (subst (λ (tables : List ℕ). WrittenFor output w built (frameOf r) tables scan) same-tables
-      (subst (λ (bytes : List ℕ). WrittenFor output w built (frameOf r) (r .tables) bytes) same-scan
-      (λ fits. whole-built r area builds buildable fits)))
+      subst (λ (f : Frame). WritesFile f (thoseTables (g .picture)) scan output w built) same-frame
+      (subst (λ (tables : List ℕ). WritesFile (frameOf r) tables scan output w built) same-tables
+      (subst (λ (bytes : List ℕ). WritesFile (frameOf r) (r .tables) bytes output w built) same-scan
+      (whole-built r area builds buildable)))

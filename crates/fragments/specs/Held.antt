@@ -16,6 +16,7 @@ use Rattle.laws.specs.Truth.{split, and-true, and-false, or-true}
 use Rattle.fragments.specs.Fragments.{stop, fragmentAt}
 use Rattle.fragments.specs.Order.{InOrder, in-order-from, EndBy, MarkedLast, last}
 use Rattle.fragments.specs.Shared.{holds, is-held}
+use Rattle.fragments.specs.Tiles.{Tiles, tiles-inside}
 use Rattle.fragments.specs.declared.Fragment.{Fragment}
 
 abbrev pub total : List Fragment → ℕ
@@ -61,6 +62,19 @@ no-gap at e i [] o n t a b = absurd (omega arith)
 no-gap at e i (f ∷ fs) o n t a b = split (ltb i (stop f))
     (λ h. rw (is-held i f (omega (arith, total-within (stop f) e fs (o .2) (n .1) (n .0))) (ltb-true i (stop f) h)))
     (λ h. rw (no-gap (stop f) e i fs (o .2) (n .1) (omega (arith, total-within (stop f) e fs (o .2) (n .1) (n .0))) (ltb-false i (stop f) h) b) (or-true (holds i f)))
+
+-- fragments that tile have as many bytes as there are places, and tell the end
+module _ (end : ℕ) where
+  pub tiles-total : (start : ℕ) (cs : List Fragment) → Tiles start cs end → start + total cs ≡ end
+  tiles-total start [] t = omega arith
+  tiles-total start (c ∷ cs) t = omega (arith, tiles-total (stop c) cs (t .3))
+
+  pub tiles-end : (start : ℕ) (cs : List Fragment) → start < end → Tiles start cs end → endOf cs ≡ end
+  tiles-end start [] n t = absurd (omega arith)
+  tiles-end start (c ∷ []) n t = rw (t .2) (t .3)
+  tiles-end start (c ∷ d ∷ cs) n t =
+      let i = tiles-inside (stop c) (d ∷ cs) end 0 (t .3) (omega arith) in
+      rw (t .2) (tiles-end (stop c) (d ∷ cs) (omega (arith, i .from, i .some, i .to)) (t .3))
 
 -- byte 0 is held exactly where there is a first and it begins there
 pub start-held : (fs : List Fragment) → InOrder 0 fs → any (holds 0) fs ≡ fromZero fs

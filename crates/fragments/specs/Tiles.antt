@@ -1,9 +1,11 @@
 -- Fragments that tile a scan, however it is cut. Assumes nothing.
 use Prim.Native.Nat.{ℕ, zero, suc, _+_, _≤_, _<_}
 use mathlib.Core.List.{List, [], _∷_}
-use mathlib.Core.Path.{_≡_, refl, sym}
+use mathlib.Core.Path.{_≡_, refl, sym, _∙_}
 use native.Mathlib.Nat.{add-zero, add-assoc}
 use native.Mathlib.Omega.{arith}
+use borrow.Author.Tests.{eq-eqb, ne-eqb}
+use lib.Dec.{eqb, eqb·suc-zero}
 use lib.ListN.{length, drop}
 use Rattle.laws.specs.Each.{Each}
 use Rattle.fragments.specs.Fragments.{stop, fragmentAt}
@@ -64,6 +66,12 @@ tiles-inside start (c ∷ cs) end zero t h = record {
 tiles-inside start (c ∷ cs) end (suc k) t h =
     let i = tiles-inside (stop c) cs end k (t .3) (omega arith) in
     record { from = omega (arith, i .from); some = i .some; to = i .to; marker = i .marker }
+
+-- the first alone is at offset 0, where they tile from there
+pub first-offset : (end : ℕ) (cs : List Fragment) (k : ℕ) → Tiles 0 cs end → k < length cs → eqb (fragmentAt cs k .offset) 0 ≡ eqb k 0
+first-offset end [] k t i = absurd (omega arith)
+first-offset end (c ∷ cs) zero t i = eq-eqb (c .offset) 0 (t .0)
+first-offset end (c ∷ cs) (suc k) t i = ne-eqb (fragmentAt cs k .offset) 0 (λ z. omega (arith, t, tiles-inside (stop c) cs end k (t .3) (omega arith) .from)) ∙ sym (eqb·suc-zero k)
 
 -- the marker is on the last alone, behind which nothing comes
 pub tiles-marker : (start : ℕ) (cs : List Fragment) (end k : ℕ) → Tiles start cs end → k < length cs → fragmentAt cs k .marker ≡ markerBefore (drop (suc k) cs)

@@ -12,6 +12,10 @@ module _ {A : Type 0} (P : A → Type 0) where
   each-append [] m a b = b
   each-append (x ∷ l) m a b = (a .0, each-append l m (a .1) b)
 
+  pub each-parts : (l m : List A) → Each (l ++ m) → Each l × Each m
+  each-parts [] m h = (tt, h)
+  each-parts (x ∷ l) m h = let t = each-parts l m (h .1) in ((h .0, t .0), t .1)
+
   pub each-map : {B : Type 0} (f : B → A) → ((x : B) → P (f x)) → (l : List B) → Each (map f l)
   each-map f h [] = tt
   each-map f h (x ∷ l) = (h x, each-map f h l)

@@ -30,10 +30,10 @@ pub record PutsUpTo (before : List ℕ) (at : ℕ) (bytes after : List ℕ) (beh
 pub length-put : (l : List ℕ) (at : ℕ) (bytes : List ℕ) → at + length bytes ≤ length l → length (put l at bytes) ≡ length l
 length-put l at bytes h = simp (length-append, length-take, length-drop) (omega arith)
 
--- a byte of it afterwards
 getD-behind : (l m : List ℕ) (i : ℕ) → length l ≤ i → getD (l ++ m) i 0 ≡ getD m (i - length l) 0
 getD-behind l m i h = ap (λ (j : ℕ). getD (l ++ m) j 0) (sym (add-sub-of-le h)) ∙ getD-append-add l m (i - length l) 0
 
+-- a byte of it afterwards: one of those put, or the one that stood there
 pub getD-put : (l : List ℕ) (at : ℕ) (bytes : List ℕ) → at + length bytes ≤ length l → (i : ℕ) → getD (put l at bytes) i 0 ≡ cond (leb at i && ltb i (at + length bytes)) (getD bytes (i - at) 0) (getD l i 0)
 getD-put l at bytes fits i = split (leb at i)
     (λ a. let a′ = leb-true at i a in

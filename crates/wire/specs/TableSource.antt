@@ -96,6 +96,12 @@ module _ (q : ℕ) where
       not-kept : within 128 254 q ≡ false → isKeptOrBrought (tableSource q) ≡ false
       not-kept w = rw w (split (within 1 99 q) (λ a. rw a) (λ a. rw a (split (eqb q 255) (λ b. rw b) (λ b. rw b))))
 
+pub in-band-not-made : (s : TableSource) → isInBand s ≡ true → isMade s ≡ false
+in-band-not-made Made e = sym e
+in-band-not-made KeptOrBrought e = refl
+in-band-not-made AlwaysBrought e = refl
+in-band-not-made Reserved e = refl
+
 pub always-in-band : (s : TableSource) → isAlwaysBrought s ≡ true → isInBand s ≡ true
 always-in-band Made e = e
 always-in-band KeptOrBrought e = refl
