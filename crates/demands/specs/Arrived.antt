@@ -4,12 +4,11 @@ use mathlib.Core.Bool.{Bool, true, cond}
 use mathlib.Core.List.{List}
 use mathlib.Core.Path.{_≡_, refl, ap, ap₂, _∙_}
 use native.Mathlib.Omega.{arith}
-use lib.ListN.{length, getD, set}
+use lib.ListN.{length, getD}
 use Rattle.fragments.specs.Array.{held-padded}
 use Rattle.fragments.specs.declared.Fragment.{Fragment}
 use Rattle.kept.specs.Kept.{blank, keep}
 use Rattle.kept.specs.declared.Kept.{Kept}
-use Rattle.receiver.specs.FirstPacket.{brings}
 use Rattle.receiver.specs.Laws.{Taken, read-first, judged-on, when-left, taken-when}
 use Rattle.receiver.specs.Picture.{picture-held}
 use Rattle.receiver.specs.Step.Decision.{leave}
@@ -32,7 +31,7 @@ use Rattle.wire.specs.declared.Reading.{Reading}
 use Rattle.demands.specs.CutsIn.{cutsIn}
 use Rattle.demands.specs.Delivery.{Packets, bringsTables, HasTables, Harmless, LeavesAll, thoseTables}
 use Rattle.demands.specs.Filled.{filled, length-filled}
-use Rattle.demands.specs.History.{State, state, step}
+use Rattle.demands.specs.History.{State, state, step, accepted-small}
 
 -- A picture that a receiver has begun: its packets, the receiver as it began, and the area as it was then.
 pub record Begun : Type 0 where
@@ -82,8 +81,8 @@ module _ (r : Receiver) (area q : List ℕ) {n : ℕ} (d : decision r area q ≡
       let t = when-left r area q d in
       (rw (t .0), ap₂ state (rw (t .0)) (t .1))
 
-  leaves-all : LeavesAll step (state r area) q
-  leaves-all = ((λ e. taken (taken-when r area q (omega arith)), λ e. taken (taken-when r area q (omega arith))), leaves .1)
+  pub leaves-all : LeavesAll step (state r area) q
+  leaves-all = (λ e. taken (taken-when r area q (accepted-small (step (state r area) q .answer) e)), leaves .1)
     where
       taken : Taken r area q → ⊥
       taken t = let z : _≡_ {A = ℕ} 0 1 = cc (t .decided, d) in omega arith

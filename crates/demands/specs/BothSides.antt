@@ -6,25 +6,19 @@ use mathlib.Core.List.{[], _∷_}
 use mathlib.Core.Path.{_≡_, refl}
 use lib.ListN.{getD, replicate}
 use Rattle.fragments.specs.declared.Fragment.{Fragment}
-use Rattle.laws.specs.Spelled.{spelled}
-use Rattle.laws.specs.Within.{within}
 use Rattle.receiver.specs.Picture.{begun, starts, pictureFor}
 use Rattle.receiver.specs.Time.{ahead, isNewer}
 use Rattle.receiver.specs.Verdict.{verdict}
 use Rattle.replies.specs.Checks.{judged}
 use Rattle.replies.specs.declared.Judged.the-variants.{Passed, Refused}
-use Rattle.sender.specs.Cuts.{capacity, cuts}
-use Rattle.sender.specs.Packet.{restartHeader, tableHeader}
+use Rattle.sender.specs.Cuts.{cuts}
 use Rattle.sender.specs.Picture.{Picture, picture}
 use Rattle.sender.specs.Sending.{checks}
 use Rattle.state.specs.Receiver.{fresh}
 use Rattle.state.specs.declared.Receiver.{Receiver}
-use Rattle.tables.specs.Quantiser.{lumaAt, chromaAt, zigzag, inZigzag, scale, made, scaled, tablesOf}
-use Rattle.wire.specs.Kind.{restartsOf}
-use Rattle.wire.specs.Lawful.{isLawful}
-use Rattle.wire.specs.TableSource.{tableSource}
-use Rattle.wire.specs.Tables.{areFull}
+use Rattle.tables.specs.Quantiser.{scale, tablesOf}
 use Rattle.wire.specs.declared.Packet.{Packet}
+use Rattle.demands.specs.Computing.{computes-sending, computes-tables}
 
 -- entry i of a Q's luma table, and of its chroma table
 abbrev luma : ℕ → ℕ → ℕ
@@ -83,7 +77,7 @@ pub record BothSides : Type 0 where
   pub half-way-past : verdict (heldAt 0) [] [] (stamped (2 ^ 31)) ≡ Refused 22
 
 pub both-sides : BothSides
-unfolding lumaAt chromaAt zigzag inZigzag scale made scaled tablesOf cuts capacity restartHeader tableHeader spelled restartsOf tableSource within judged isLawful areFull ahead pictureFor
+unfolding computes-tables computes-sending ahead pictureFor
 both-sides = record {
   q-50-luma-0 = refl;
   q-50-luma-2 = refl;

@@ -10,7 +10,7 @@ use lib.ListN.{length, getD, set}
 use Rattle.fragments.specs.Clash.{isMarked, Clear}
 use Rattle.fragments.specs.Fragments.{stop, fragmentAt}
 use Rattle.fragments.specs.Held.{total, endOf, whole, total-within, tiles-total, tiles-end, not-known, not-reached, is-reached}
-use Rattle.fragments.specs.Insertion.{insert, place}
+use Rattle.fragments.specs.Insertion.{insert}
 use Rattle.fragments.specs.Order.{InOrder, EndBy}
 use Rattle.fragments.specs.Shared.{share, unshared, unshared-behind}
 use Rattle.fragments.specs.Tiles.{Tiles, Inside, tiles-inside}

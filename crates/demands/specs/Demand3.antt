@@ -1,11 +1,13 @@
--- Demand 3. `Delivery` has what its words mean. Assumes nothing.
+-- Demand 3. `Delivery` has what its words mean, and `Provenance` those of its last sentence. Assumes nothing.
 use Prim.Native.Nat.{ℕ, _^_, _<_}
 use mathlib.Core.Bool.{true}
 use mathlib.Core.List.{List, _++_}
-use mathlib.Core.Path.{_≡_, refl, sym, subst, _∙_}
+use mathlib.Core.Path.{_≡_, refl, sym, ap, subst, _∙_}
 use native.Mathlib.Omega.{arith}
-use lib.ListN.{length, drop}
+use lib.ListN.{length, take, drop}
 use lib.Seq.{take-append-seam}
+use Rattle.builder.specs.Building.{Builds, fileOf}
+use Rattle.builder.specs.Built.{success-built}
 use Rattle.fragments.specs.Fragments.{fragmentAt}
 use Rattle.fragments.specs.Tiles.{tiles-inside}
 use Rattle.fragments.specs.declared.Fragment.{Fragment}
@@ -13,6 +15,7 @@ use Rattle.replies.specs.Checks.{judged}
 use Rattle.replies.specs.Output.{succeeded, writes-all}
 use Rattle.replies.specs.Reply
 use Rattle.replies.specs.declared.Judged.the-variants.{Passed}
+use Rattle.replies.specs.declared.Written.{Written}
 use Rattle.sender.specs.Cuts.{cuts}
 use Rattle.sender.specs.Packet.{packet}
 use Rattle.sender.specs.PacketBytes.{packet-bytes}
@@ -21,6 +24,7 @@ use Rattle.sender.specs.ReadBack.{Cut, ReadBack, cut-read-back}
 use Rattle.sender.specs.Sending.{checks, sending}
 use Rattle.sender.specs.Sent.{Sent, sent, sent-cut}
 use Rattle.sender.specs.declared.Stamp.{Stamp}
+use Rattle.state.specs.Opening.{fresh-well-formed}
 use Rattle.state.specs.Receiver.{fresh}
 use Rattle.state.specs.WellFormed.{wellFormed}
 use Rattle.state.specs.declared.Answer.{Answer}
@@ -31,7 +35,9 @@ use Rattle.demands.specs.Delivery.{Packets, FromSender, Awaited, Arrival
 use Rattle.demands.specs.FirstToCome.{beginning, first-comes}
 use Rattle.demands.specs.History.{State, state, History, Outcome, step, after, answers, MeetsContract, the-step, history}
 use Rattle.demands.specs.OneMore.{one-comes}
-use Rattle.demands.specs.Reachable.{reachable}
+use Rattle.demands.specs.Origin.{as-brought}
+use Rattle.demands.specs.Provenance.{AsBrought, WholeAsBrought}
+use Rattle.demands.specs.Reachable.{its-room, its-steps, reachable}
 use Rattle.demands.specs.Whole.{file-holds}
 
 -- from any well-formed receiver with an area as long as its room
@@ -119,3 +125,25 @@ packets-sent s p size scan tables time source passed = record {
         written = sym (take-append-seam bytes (drop (length bytes) bytes));
       };
 }
+
+-- The last sentence, of the receiver's step, and with it of whatever meets the contract of `receiver::receive`.
+as-brought-itself : WholeAsBrought step
+as-brought-itself source room area packets range long bytes whole = as-brought (state (fresh source room) area) packets (fresh-well-formed source room range) long (omega arith) refl bytes whole
+
+pub whole-as-brought : (f : State → List ℕ → Outcome State) → MeetsContract f → WholeAsBrought f
+whole-as-brought f met = subst WholeAsBrought (the-step f met) as-brought-itself
+
+-- After any history of calls that meet their contract,
+pub provenance : (source room : ℕ) (packets : List (List ℕ)) (answered : List Answer) (x : State) (h : History source room packets answered x) → x .receiver .whole ≡ 1 → AsBrought step (state (fresh source room) (h .area)) packets x
+provenance source room packets answered x h whole =
+    let left = its-steps h .1 in
+    subst (AsBrought step (state (fresh source room) (h .area)) packets) (sym left)
+    (as-brought-itself source room (h .area) packets (its-room h) (h .as-long-as-the-room) (h .bytes) (ap (λ (y : State). y .receiver .whole) (sym left) ∙ whole))
+
+-- and so a file that `build` has then written, with success, is that of a picture as brought.
+pub shown : (source room : ℕ) (packets : List (List ℕ)) (answered : List Answer) (x : State) (h : History source room packets answered x) (output : List ℕ) (w : Written) (built : List ℕ)
+    → Builds (x .receiver) (x .area) output w built → w .reply ≡ Reply.success
+    → AsBrought step (state (fresh source room) (h .area)) packets x × (take (w .length) built ≡ fileOf (x .receiver) (x .area))
+shown source room packets answered x h output w built builds success =
+    let t = success-built (x .receiver) (x .area) builds success in
+    (provenance source room packets answered x h (t .0 .well .whole ∙ rw (t .0 .whole)), t .2)

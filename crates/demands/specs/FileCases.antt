@@ -1,15 +1,13 @@
 -- Document 01's numbers for the file, as one table that the checker computes. Assumes nothing.
 use Prim.Native.Nat.{ℕ, _+_}
-use mathlib.Core.List.{List, [], _∷_, flatMap}
+use mathlib.Core.List.{List, [], _∷_}
 use mathlib.Core.Path.{_≡_, refl}
 use lib.ListN.{length, take, drop}
-use Rattle.builder.specs.File.{isClosed, body, file}
-use Rattle.head.specs.Head.{lumaSampling, quantisers, restarts, frameHeader, huffmanTables, scanHeader, head}
-use Rattle.head.specs.Huffman.{lumaDC, lumaAC, chromaDC, chromaAC}
-use Rattle.head.specs.Segment.{segment}
+use Rattle.builder.specs.File.{body, file}
+use Rattle.head.specs.Head.{restarts, head}
 use Rattle.head.specs.declared.Frame.{Frame}
-use Rattle.laws.specs.Spelled.{spelled}
-use Rattle.tables.specs.Quantiser.{lumaAt, chromaAt, zigzag, inZigzag, scale, made, scaled, tablesOf}
+use Rattle.tables.specs.Quantiser.{tablesOf}
+use Rattle.demands.specs.Computing.{computes-file}
 
 abbrev frame : ℕ → ℕ → Frame
 frame kind interval = record { kind = kind; width = 2; height = 2; interval = interval }
@@ -36,7 +34,7 @@ pub record FileCases : Type 0 where
   pub one-byte : body (0xD9 ∷ []) ≡ 0xD9 ∷ 0xFF ∷ 0xD9 ∷ []
 
 pub file-cases : FileCases
-unfolding lumaAt chromaAt zigzag inZigzag scale made scaled tablesOf spelled flatMap segment lumaSampling quantisers restarts frameHeader huffmanTables scanHeader head lumaDC lumaAC chromaDC chromaAC isClosed body file
+unfolding computes-file
 file-cases = record {
   head-without-dri = refl;
   head-with-dri = refl;

@@ -1,9 +1,14 @@
 -- A history of calls, a packet each. Assumes nothing.
 use Prim.Native.Nat.{ℕ, _<_}
 use mathlib.Core.List.{List, [], _∷_, _++_}
+use mathlib.Core.Logic.{_⊎_, inl, inr}
 use mathlib.Core.Path.{_≡_, refl, sym, ap, ap₂, fun-ext, _∙_}
+use native.Mathlib.Omega.{arith}
+use borrow.Author.Tests.{eqb-true, eqb-false}
+use lib.Dec.{eqb}
 use lib.ListN.{length, drop}
 use Rattle.laws.specs.Each.{Each, each-take, each-drop}
+use Rattle.laws.specs.Truth.{split}
 use Rattle.laws.specs.Within.{Between}
 use Rattle.receiver.specs.Step.{received, areaAfter, Receives}
 use Rattle.receiver.specs.declared.Received.{Received}
@@ -53,8 +58,11 @@ pub record History (source room : ℕ) (packets : List (List ℕ)) (answered : L
   pub calls : Calls (state (opened .receiver) area) packets answered x
 
 -- Accepted is reply 0 or 1; any other is a refusal, or again.
+abbrev pub Accepted : Answer → Type 0
+Accepted a = (a .reply ≡ Reply.held) ⊎ (a .reply ≡ Reply.whole)
+
 abbrev pub NotAccepted : Answer → Type 0
-NotAccepted a = (a .reply ≡ Reply.held → ⊥) × (a .reply ≡ Reply.whole → ⊥)
+NotAccepted a = Accepted a → ⊥
 
 -- What a call gives: an answer, and what it leaves for the next one.
 pub record Outcome (S : Type 0) : Type 0 where
@@ -83,6 +91,22 @@ abbrev pub MeetsContract : (State → List ℕ → Outcome State) → Type 0
 MeetsContract f = (x : State) (p : List ℕ) → Receives (x .receiver) (x .area) p (record { answer = f x p .answer; receiver = f x p .left .receiver }) (f x p .left .area)
 
 -- ---- laws
+
+-- accepted, by the number
+module _ (a : Answer) where
+  pub accepted-small : Accepted a → a .reply < 2
+  accepted-small (inl e) = omega arith
+  accepted-small (inr e) = omega arith
+
+  pub small-accepted : a .reply < 2 → Accepted a
+  small-accepted h = split (eqb (a .reply) Reply.held)
+      (λ e. inl (eqb-true (a .reply) Reply.held e))
+      (λ e. inr (let other = eqb-false (a .reply) Reply.held e in omega arith))
+
+-- what packets leave, and then more packets
+pub after-append : {S : Type 0} (step : S → List ℕ → Outcome S) (x : S) (packets more : List (List ℕ)) → after step x (packets ++ more) ≡ after step (after step x packets) more
+after-append step x [] more = refl
+after-append step x (p ∷ packets) more = after-append step (step x p .left) packets more
 
 -- a call that meets its contract is a step, and so a history is what the step makes of its packets
 is-step : (x : State) (p : List ℕ) (a : Answer) (z : State) → Receives (x .receiver) (x .area) p (record { answer = a; receiver = z .receiver }) (z .area) → outcome a z ≡ step x p

@@ -1,6 +1,7 @@
 pub mod History
 pub mod Reachable
 pub mod Refusals
+pub mod Computing
 pub mod Transcript
 pub mod BothSides
 pub mod Determined
@@ -15,5 +16,10 @@ pub mod Arrived
 pub mod OneMore
 pub mod Whole
 pub mod FirstToCome
+pub mod Provenance
+pub mod Origin
 pub mod Demand3
 pub mod TwoPackets
+pub mod OtherFile
+pub mod Useless
+pub mod ShutOut

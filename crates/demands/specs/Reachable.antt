@@ -7,6 +7,7 @@ use lib.ListN.{length}
 use Rattle.builder.specs.Building.{Builds}
 use Rattle.builder.specs.Built.{replied as built-replied}
 use Rattle.laws.specs.Each.{Each}
+use Rattle.laws.specs.Within.{Between}
 use Rattle.receiver.specs.Laws.{keeps-well-formed, area-long, source-stays, room-stays, replied}
 use Rattle.replies.specs.Reply
 use Rattle.replies.specs.declared.Written.{Written}
@@ -46,13 +47,21 @@ stays x (p ∷ packets) well long bytes =
       never-8 = (other .1, rest .never-8);
     }
 
+-- A history is what the step makes of its packets, from the fresh receiver of its source and room on.
+module _ {source room : ℕ} {packets : List (List ℕ)} {answered : List Answer} {x : State} (h : History source room packets answered x) where
+  pub its-room : Between 1 65536 room
+  its-room = opened-room source room (sym (ap (λ (o : Opened). o .answer .reply) (h .opens)) ∙ h .with-reply-0)
+
+  pub its-steps : (answered ≡ answers step (state (fresh source room) (h .area)) packets) × (x ≡ after step (state (fresh source room) (h .area)) packets)
+  its-steps =
+      let new : h .opened .receiver ≡ fresh source room = ap (λ (o : Opened). o .receiver) (h .opens ∙ opens source room its-room) in
+      rw new at (calls-step (state (h .opened .receiver) (h .area)) packets answered x (h .calls))
+
 -- After any history the receiver is well formed and the area as long as the room, and neither 9 nor 8 was ever answered;
 pub reachable : (source room : ℕ) (packets : List (List ℕ)) (answered : List Answer) (x : State) → History source room packets answered x → Reached source room answered x
 reachable source room packets answered x h =
-    let range = opened-room source room (sym (ap (λ (o : Opened). o .answer .reply) (h .opens)) ∙ h .with-reply-0) in
-    let new : h .opened .receiver ≡ fresh source room = ap (λ (o : Opened). o .receiver) (h .opens ∙ opens source room range) in
-    let left = calls-step (state (h .opened .receiver) (h .area)) packets answered x (h .calls) in
-    rw (left .0, left .1, new) (stays (state (fresh source room) (h .area)) packets (fresh-well-formed source room range) (h .as-long-as-the-room) (h .bytes))
+    let s = its-steps h in
+    rw (s .0, s .1) (stays (state (fresh source room) (h .area)) packets (fresh-well-formed source room (its-room h)) (h .as-long-as-the-room) (h .bytes))
 
 -- and the builder answers neither of them then.
 pub builds : (source room : ℕ) (packets : List (List ℕ)) (answered : List Answer) (x : State) (before : List ℕ) (w : Written) (after : List ℕ) → History source room packets answered x → Builds (x .receiver) (x .area) before w after → (w .reply ≡ Reply.not-well-formed → ⊥) × (w .reply ≡ Reply.area-not-room → ⊥)

@@ -1,11 +1,10 @@
 -- Demand 1: "A refusal has a number, hands back the receiver it was given, and changes no lent byte." Again, which is no refusal,
 -- hands both back too. Assumes nothing.
-use Prim.Native.Nat.{ℕ, _<_}
+use Prim.Native.Nat.{ℕ}
 use mathlib.Core.Bool.{Bool, true}
 use mathlib.Core.List.{List, [], _∷_, _++_}
 use mathlib.Core.Path.{_≡_, refl, sym, ap, ap₂, _∙_}
-use native.Mathlib.Omega.{arith}
-use borrow.Author.Tests.{eqb-true, eqb-false, ne-eqb}
+use borrow.Author.Tests.{ne-eqb}
 use lib.Dec.{eqb}
 use Rattle.builder.specs.Building as Building
 use Rattle.builder.specs.Building.{Builds, building, fileOf}
@@ -42,7 +41,7 @@ use Rattle.tables.specs.Quantiser.{tablesOf}
 use Rattle.wire.specs.Readable.{read-refused}
 use Rattle.wire.specs.Reading.{Reads}
 use Rattle.wire.specs.declared.Reading.the-variants as Reading
-use Rattle.demands.specs.History.{State, state, Calls, NotAccepted, packetIn, answerIn, take-calls}
+use Rattle.demands.specs.History.{State, state, Calls, NotAccepted, small-accepted, packetIn, answerIn, take-calls}
 
 -- The numbers of refusals in document 01's table of replies: of table making, the sender, the builder, the reader and the receiver.
 abbrev pub ofTables : List ℕ
@@ -127,12 +126,7 @@ receive r area p d after a not = by-decision r area p
       receiver-handed-back = rw given;
       area-as-it-was = a .lent ∙ left .1;
     })
-    (λ t. absurd (other (rw (a .answer) (reply-small r area p t))))
-  where
-    other : d .answer .reply < 2 → ⊥
-    other small = split (eqb (d .answer .reply) 0)
-        (λ e. not .0 (eqb-true (d .answer .reply) 0 e))
-        (λ e. not .1 (let some = eqb-false (d .answer .reply) 0 e in omega arith))
+    (λ t. absurd (not (small-accepted (d .answer) (rw (a .answer) (reply-small r area p t)))))
 
 -- So calls of which none is answered with held or whole leave receiver and area as they were, however many they are,
 pub calls-unchanged : (x : State) (packets : List (List ℕ)) (answered : List Answer) (y : State) → Calls x packets answered y → Each NotAccepted answered → y ≡ x

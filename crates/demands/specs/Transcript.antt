@@ -1,41 +1,18 @@
 -- Document 01's transcript on the definitions, computed. Assumes nothing.
 use Prim.Native.Nat.{ℕ, _+_}
-use mathlib.Core.List.{List, [], _∷_, flatMap}
+use mathlib.Core.List.{List, [], _∷_}
 use mathlib.Core.Path.{_≡_, refl}
 use native.Mathlib.Omega.{arith}
 use lib.ListN.{length, take, replicate}
 use Rattle.builder.specs.Building.{checks, fileOf}
-use Rattle.builder.specs.File.{isClosed, body, file}
-use Rattle.fragments.specs.Array.{noFragments, padded}
-use Rattle.fragments.specs.Clash.{clashes}
-use Rattle.fragments.specs.Held.{reached}
-use Rattle.fragments.specs.Order.{areOrdered, inPlace}
-use Rattle.fragments.specs.Shared.{share, alike}
-use Rattle.head.specs.Head.{lumaSampling, quantisers, restarts, frameHeader, huffmanTables, scanHeader, head}
-use Rattle.head.specs.Huffman.{lumaDC, lumaAC, chromaDC, chromaAC}
-use Rattle.head.specs.Segment.{segment}
-use Rattle.kept.specs.Kept.{blank, wellKept}
-use Rattle.laws.specs.Spelled.{spelled}
-use Rattle.laws.specs.Within.{within}
-use Rattle.receiver.specs.FirstPacket.{given, isBare, tablesAfter, keptAfter}
-use Rattle.receiver.specs.Picture.{pictureFor}
-use Rattle.receiver.specs.Step.{decision, taken, held, received, areaAfter}
-use Rattle.receiver.specs.Time.{ahead}
-use Rattle.receiver.specs.Verdict.{isUnlike}
+use Rattle.builder.specs.File.{file}
+use Rattle.receiver.specs.Step.{held}
 use Rattle.replies.specs.Checks.{judged}
 use Rattle.replies.specs.declared.Judged.the-variants.{Passed}
 use Rattle.state.specs.Receiver.{fresh}
-use Rattle.state.specs.WellFormed.{isUnset, pictureRight, tablesGiven, wellFormed}
 use Rattle.state.specs.declared.Answer.{Answer}
-use Rattle.tables.specs.Quantiser.{lumaAt, chromaAt, zigzag, inZigzag, scale, made, scaled, tablesOf}
-use Rattle.wire.specs.Field.{Bytes, field}
-use Rattle.wire.specs.Kind.{restartsOf}
-use Rattle.wire.specs.Lawful.{isLawful}
-use Rattle.wire.specs.Reading.{said, reading}
-use Rattle.wire.specs.Restart.{interval, restartEnd}
-use Rattle.wire.specs.Rtp.{headersEnd, dropped, paddingBroken, payloadLength, payload}
-use Rattle.wire.specs.TableSource.{tableSource}
-use Rattle.wire.specs.Tables.{hasTableHeader, tablesLength, precision, tablesAt, scanAt, tableRuleBroken}
+use Rattle.wire.specs.Field.{Bytes}
+use Rattle.demands.specs.Computing.{computes-file, computes-step}
 use Rattle.demands.specs.History.{State, state, History, step, after, answers, history}
 
 -- its second packet, and its first
@@ -70,7 +47,7 @@ pub record Transcript : Type 0 where
   pub file : length (fileOf (left .receiver) (left .area)) ≡ 605 + 4 + 2
 
 pub transcript : Transcript
-unfolding noFragments padded clashes reached areOrdered inPlace share alike blank wellKept within given isBare tablesAfter keptAfter pictureFor decision taken held received areaAfter ahead isUnlike judged isUnset pictureRight tablesGiven wellFormed lumaAt chromaAt zigzag inZigzag scale made scaled tablesOf field restartsOf isLawful said reading interval restartEnd headersEnd dropped paddingBroken payloadLength payload tableSource hasTableHeader tablesLength precision tablesAt scanAt tableRuleBroken spelled flatMap segment lumaSampling quantisers restarts frameHeader huffmanTables scanHeader head lumaDC lumaAC chromaDC chromaAC isClosed body file
+unfolding computes-step computes-file
 transcript = record { answered = refl; area = refl; whole = refl; file = refl }
 
 -- It is a history such as the theorems speak of.

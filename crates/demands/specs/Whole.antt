@@ -7,7 +7,6 @@ use native.Mathlib.Omega.{arith}
 use lib.ListN.{length, take}
 use Rattle.builder.specs.Building.{Buildable, frameFor, frameOf, scanOf}
 use Rattle.builder.specs.Built.{WritesFile, whole-built}
-use Rattle.builder.specs.File.{file}
 use Rattle.fragments.specs.Array.{held-padded}
 use Rattle.fragments.specs.Held.{total, endOf, tiles-total, tiles-end}
 use Rattle.fragments.specs.declared.Fragment.{Fragment}

@@ -2,7 +2,7 @@
 use Prim.Native.Nat.{ℕ, zero, suc, _+_, _≤_, _<_}
 use mathlib.Core.Bool.{Bool, true, false, cond, _&&_}
 use mathlib.Core.List.{List, [], _∷_}
-use mathlib.Core.Path.{_≡_, refl}
+use mathlib.Core.Path.{_≡_, refl, sym, subst}
 use native.Mathlib.Nat.{not-suc-le-zero, le-of-suc-le-suc}
 use native.Mathlib.Numerals.{add-one}
 use native.Mathlib.Omega.{arith}
@@ -62,6 +62,15 @@ no-gap at e i [] o n t a b = absurd (omega arith)
 no-gap at e i (f ∷ fs) o n t a b = split (ltb i (stop f))
     (λ h. rw (is-held i f (omega (arith, total-within (stop f) e fs (o .2) (n .1) (n .0))) (ltb-true i (stop f) h)))
     (λ h. rw (no-gap (stop f) e i fs (o .2) (n .1) (omega (arith, total-within (stop f) e fs (o .2) (n .1) (n .0))) (ltb-false i (stop f) h) b) (or-true (holds i f)))
+
+-- where the end is known, the marker on the last alone, they are within it
+pub ended : (at : ℕ) (fs : List Fragment) → InOrder at fs → MarkedLast fs → 0 < endOf fs → EndBy (endOf fs) fs
+ended at [] o m k = tt
+ended at (f ∷ []) o m k = split (eqb (f .marker) 1) (λ e. (rw e (omega arith), tt)) (λ e. absurd (let z = rw e at k in omega arith))
+ended at (f ∷ g ∷ gs) o m k =
+    let later : endOf (f ∷ g ∷ gs) ≡ endOf (g ∷ gs) = rw (ne-eqb (f .marker) 1 (λ e. omega (arith, m .0))) in
+    let rest = ended (stop f) (g ∷ gs) (o .2) (m .1) (rw later at k) in
+    subst (λ (e : ℕ). EndBy e (f ∷ g ∷ gs)) (sym later) (omega (arith, o, rest .0), rest)
 
 -- fragments that tile have as many bytes as there are places, and tell the end
 module _ (end : ℕ) where

@@ -1,5 +1,5 @@
 -- What holds of every step. Assumes nothing.
-use Prim.Native.Nat.{ℕ, _≤_, _<_}
+use Prim.Native.Nat.{ℕ, _^_, _≤_, _<_}
 use mathlib.Core.Bool.{Bool, true, false}
 use mathlib.Core.List.{List, [], _∷_}
 use mathlib.Core.Path.{_≡_, refl, ap, _∙_}
@@ -12,7 +12,7 @@ use Rattle.fragments.specs.Clash.{isMarked, clashes, in-place-insert, start-ins
 use Rattle.fragments.specs.Held.{total, endOf, whole, Whole, is-whole, is-reached}
 use Rattle.fragments.specs.Insertion.{insert, length-insert}
 use Rattle.laws.specs.Put.{put, length-put}
-use Rattle.laws.specs.Truth.{split, never-both, and-false}
+use Rattle.laws.specs.Truth.{split, never-both, and-false, or-none}
 use Rattle.laws.specs.Within.{within, is-under}
 use Rattle.replies.specs.Checks.{judged, _when_, neither, neither-9-nor-8, numbered, refused-by}
 use Rattle.replies.specs.Reply
@@ -30,10 +30,10 @@ use Rattle.wire.specs.declared.Packet.{Packet}
 use Rattle.wire.specs.declared.Reading.the-variants as Answer
 use Rattle.wire.specs.declared.Reading.{Reading}
 use Rattle.receiver.specs.FirstPacket.{isBare, kept-after-well, tables-after-right}
-use Rattle.receiver.specs.Picture.{starts, pictureFor, picture-begun, picture-source, picture-room, picture-well-formed}
+use Rattle.receiver.specs.Picture.{starts, pictureFor, picture-begun, picture-held, picture-source, picture-room, picture-well-formed}
 use Rattle.receiver.specs.Step.Decision.{leave, accept}
 use Rattle.receiver.specs.Step.{decision, ruled, judgedRead, taken, held, answering, tookIn, received, areaAfter}
-use Rattle.receiver.specs.Time.{not-behind}
+use Rattle.receiver.specs.Time.{isNewer, not-behind, behind-else}
 use Rattle.receiver.specs.Verdict.{fragmentOf, isBeyond, checks, verdict, Accepted, accepted, like-itself}
 
 -- Why a call leaves all as it is, and with which reply: 9, 8, the reader's, or the verdict on what was read.
@@ -124,6 +124,16 @@ module _ (r : Receiver) (area p : List ℕ) where
   pub taken-when : received r area p .answer .reply < 2 → Taken r area p
   unfolding received
   taken-when h = by-decision (λ n l d. absurd (omega (arith, left-number l, rw d at h))) (λ t. t)
+
+  -- a packet that is taken has the time stamp of the picture that it is for
+  pub time-taken : (t : Taken r area p) → r .time < 2 ^ 32 → t .packet .time < 2 ^ 32 → t .packet .time ≡ pictureFor r (t .packet) .time
+  time-taken t small small′ = let s = t .packet in split (starts r s)
+      (λ new. rw (picture-begun r s new))
+      (λ old. rw (picture-held r s old) (split (eqb (s .time) (r .time))
+      (λ e. eqb-true (s .time) (r .time) e)
+      (λ e. absurd (never-both
+      (behind-else (s .time) (r .time) small′ small (eqb-false (s .time) (r .time) e) (or-none (eqb (r .picture) 0) (isNewer (s .time) (r .time)) old .1))
+      (rw (picture-held r s old) at (t .accepted .in-time))))))
 
   -- the reply carries the sum of the held lengths afterwards, and 0 where the receiver is not well formed
   pub held-sum : wellFormed r ≡ true → received r area p .answer .held ≡ total (heldFragments (received r area p .receiver))
