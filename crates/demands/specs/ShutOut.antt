@@ -73,6 +73,11 @@ refuses-all number refusal d =
 pub says-held : (f : State → List ℕ → Outcome State) → Delivers (sayingHeld f) → ⊥
 says-held f d = omega (arith, delivered (sayingHeld f) d .whole-once .whole)
 
+-- a step that never writes the area leaves it as it was
+area-stays : (f : State → List ℕ → Outcome State) (x : State) (packets : List (List ℕ)) → after (neverWriting f) x packets .area ≡ x .area
+area-stays f x [] = refl
+area-stays f x (p ∷ packets) = area-stays f (neverWriting f x p .left) packets
+
 -- What the two packets leave of `start` where the second is only claimed.
 abbrev claimed : (Receiver → Packet → Bool) → State
 claimed takes = after (claiming takes) start (first ∷ second ∷ [])
@@ -110,11 +115,7 @@ computed = record {
   packet-1 = refl;
 }
 
--- "never writes the area"
-area-stays : (f : State → List ℕ → Outcome State) (x : State) (packets : List (List ℕ)) → after (neverWriting f) x packets .area ≡ x .area
-area-stays f x [] = refl
-area-stays f x (p ∷ packets) = area-stays f (neverWriting f x p .left) packets
-
+-- "never writes the area", whatever it does else
 pub never-writes : (f : State → List ℕ → Outcome State) → Delivers (neverWriting f) → ⊥
 never-writes f d =
     let same = area-stays f start (map (bytesIn inTranscript) arrivals) in
