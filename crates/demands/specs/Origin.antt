@@ -6,14 +6,14 @@ use mathlib.Core.List.{List, [], _∷_, _++_, append-assoc, append-nil}
 use mathlib.Core.Path.{_≡_, refl, sym, ap, subst, _∙_}
 use native.Mathlib.Omega.{arith}
 use lib.ListN.{length, getD}
-use Rattle.fragments.specs.Fragments.{stop, fragmentAt}
+use Rattle.fragments.specs.Fragments.{stop, nothing, fragmentAt}
 use Rattle.fragments.specs.Held.{endOf, Whole, is-whole, no-gap, ended}
 use Rattle.fragments.specs.Insertion.{insert, any-insert}
-use Rattle.fragments.specs.Order.{InOrder}
+use Rattle.fragments.specs.Order.{InOrder, in-order-from}
 use Rattle.fragments.specs.Shared.{holds, held-at}
 use Rattle.fragments.specs.declared.Fragment.{Fragment}
 use Rattle.laws.specs.Any.{any}
-use Rattle.laws.specs.Each.{Each, each-append}
+use Rattle.laws.specs.Each.{Each, each-append, each-at}
 use Rattle.laws.specs.Put.{getD-put}
 use Rattle.laws.specs.Truth.{split, never-both}
 use Rattle.receiver.specs.Laws.{Taken, by-decision, when-accepted, reply-small, time-taken, held-taken}
@@ -176,11 +176,6 @@ any-more x past (p ∷ packets) well long a b k =
 
 -- of fragments in order, a place that is held lies in exactly one
 module _ (i : ℕ) where
-  from-on : (at : ℕ) (fs : List Fragment) → InOrder at fs → (k : ℕ) → k < length fs → at ≤ fragmentAt fs k .offset
-  from-on at [] o k h = absurd (omega arith)
-  from-on at (f ∷ fs) o zero h = o .0
-  from-on at (f ∷ fs) o (suc k) h = omega (arith, o, from-on (stop f) fs (o .2) k (omega arith))
-
   exactly-one : (at : ℕ) (fs : List Fragment) → InOrder at fs → any (holds i) fs ≡ true → InExactlyOne i fs
   exactly-one at [] o h = absurd (never-both h refl)
   exactly-one at (f ∷ fs) o h = split (holds i f)
@@ -190,7 +185,7 @@ module _ (i : ℕ) where
     where
       first : holds i f ≡ true → (k : ℕ) → k < length (f ∷ fs) → holds i (fragmentAt (f ∷ fs) k) ≡ true → k ≡ 0
       first e zero b g = refl
-      first e (suc k) b g = absurd (omega (arith, held-at i f e, held-at i (fragmentAt fs k) g, from-on (stop f) fs (o .2) k (omega arith)))
+      first e (suc k) b g = absurd (omega (arith, held-at i f e, held-at i (fragmentAt fs k) g, each-at (λ (h : Fragment). stop f ≤ h .offset) fs k nothing (in-order-from (stop f) fs (o .2)) (omega arith)))
 
       later : holds i f ≡ false → (rest : InExactlyOne i fs) (k : ℕ) → k < length (f ∷ fs) → holds i (fragmentAt (f ∷ fs) k) ≡ true → k ≡ suc (rest .index)
       later e rest zero b g = absurd (never-both g e)

@@ -1,7 +1,8 @@
 -- What each element of a list has. Assumes nothing.
-use Prim.Native.Nat.{ℕ, zero, suc}
+use Prim.Native.Nat.{ℕ, zero, suc, _<_}
 use mathlib.Core.List.{List, [], _∷_, _++_, map}
-use lib.ListN.{take, drop}
+use native.Mathlib.Nat.{not-suc-le-zero, le-of-suc-le-suc}
+use lib.ListN.{length, getD, take, drop}
 
 module _ {A : Type 0} (P : A → Type 0) where
   abbrev pub Each : List A → Type 0
@@ -29,6 +30,12 @@ module _ {A : Type 0} (P : A → Type 0) where
   each-drop zero l a = a
   each-drop (suc n) [] a = tt
   each-drop (suc n) (x ∷ l) a = each-drop n l (a .1)
+
+-- the element at an index
+pub each-at : {A : Type 0} (P : A → Type 0) (l : List A) (i : ℕ) (d : A) → Each P l → i < length l → P (getD l i d)
+each-at P [] i d a h = absurd (not-suc-le-zero h)
+each-at P (x ∷ l) zero d a h = a .0
+each-at P (x ∷ l) (suc i) d a h = each-at P l i d (a .1) (le-of-suc-le-suc h)
 
 pub each-weaken : {A : Type 0} (P Q : A → Type 0) → ((x : A) → P x → Q x) → (l : List A) → Each P l → Each Q l
 each-weaken P Q f [] a = tt
