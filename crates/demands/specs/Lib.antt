@@ -8,6 +8,7 @@ pub mod Determined
 pub mod FileCases
 pub mod Sets
 pub mod Delivery
+pub mod Provenance
 pub mod Arrivals
 pub mod CutsIn
 pub mod Filled
@@ -16,7 +17,6 @@ pub mod Arrived
 pub mod OneMore
 pub mod Whole
 pub mod FirstToCome
-pub mod Provenance
 pub mod Origin
 pub mod Demand3
 pub mod TwoPackets

@@ -83,8 +83,8 @@ module _ (x : State) (past : List (List ℕ)) (p : List ℕ) where
     abbrev v : Receiver
     v = pictureFor r s
 
-    long : length (scanIn p s) ≡ s .scan .length
-    long = scan-long (r .source) p s (t .read)
+    its-length : length (scanIn p s) ≡ s .scan .length
+    its-length = scan-long (r .source) p s (t .read)
 
     -- its fragment goes among those of the picture that it is for, and its bytes to their places
     became : z .receiver ≡ taken v p s
@@ -100,8 +100,8 @@ module _ (x : State) (past : List (List ℕ)) (p : List ℕ) where
     byte-then : (i : ℕ) → getD (z .area) i 0 ≡ cond (holds i (fragmentOf s)) (getD (scanIn p s) (i - s .offset) 0) (getD area i 0)
     byte-then i =
         ap (λ (l : List ℕ). getD l i 0) (when-accepted r area p (t .decided) .1)
-        ∙ getD-put area (s .offset) (scanIn p s) (omega (arith, long, t .accepted .fits, t .lent, picture-room r s)) i
-        ∙ rw long
+        ∙ getD-put area (s .offset) (scanIn p s) (omega (arith, its-length, t .accepted .fits, t .lent, picture-room r s)) i
+        ∙ rw its-length
 
     module _ (source : r .source ≡ x .receiver .source) (bytes : Bytes p) (k : Known x past y) where
       its-time : s .time < 2 ^ 32
@@ -125,7 +125,7 @@ module _ (x : State) (past : List (List ℕ)) (p : List ℕ) where
               said = s;
               read = rw source at (t .read);
               at = i - s .offset;
-              in-its-data = omega (arith, long);
+              in-its-data = omega (arith, its-length);
               place = omega arith;
               byte = sym (byte-then i ∙ rw h);
             };

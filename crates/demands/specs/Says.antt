@@ -6,7 +6,8 @@ use mathlib.Core.Logic.{⊎-elim}
 use mathlib.Core.Path.{_≡_, refl, sym, ap, _∙_}
 use native.Mathlib.Omega.{arith}
 use lib.Dec.{eqb}
-use lib.ListN.{length}
+use lib.ListN.{length, getD, drop, length-take}
+use lib.Seq.{getD-take, getD-drop}
 use Rattle.fragments.specs.Fragments.{fragmentAt, bytesOf}
 use Rattle.fragments.specs.Tiles.{first-offset}
 use Rattle.fragments.specs.declared.Fragment.{Fragment}
@@ -29,6 +30,7 @@ use Rattle.wire.specs.declared.Reading.the-variants as Answer
 use Rattle.wire.specs.declared.TableSource.the-variants.{Made, KeptOrBrought, AlwaysBrought, Reserved}
 use Rattle.wire.specs.declared.TableSource.{TableSource}
 use Rattle.demands.specs.Delivery.{Packets, bringsTables, HasTables, thoseTables}
+use Rattle.demands.specs.Provenance.{Brings}
 
 -- Packet k of a picture says cut k, and brings the tables if it is the first.
 pub record Says (s : Stamp) (p : Picture) (cs : List Fragment) (k : ℕ) (bytes : List ℕ) : Type 0 where
@@ -85,6 +87,18 @@ module _ {s : Stamp} {p : Picture} (sendable : Sendable s p) where
     brings-keepable e = brings-else (made-within (p .header .q) ∙ is-over 1 99 (p .header .q) (omega (arith, kept-or-brought-between (p .header .q) e)))
 
 module _ {s : Stamp} {p : Picture} {cs : List Fragment} {packet : ℕ → List ℕ} (ps : Packets s p cs packet) (k : ℕ) (i : k < length cs) where
+  -- what it brings for a place is the scan's byte
+  pub brings-scan : (at v : ℕ) → Brings (s .source) (packet k) at v → v ≡ getD (p .scan) at 0
+  brings-scan at v b =
+      let c = fragmentAt cs k in
+      let back = ps .read-back k i in
+      let same : back .said ≡ b .said = cc (back .read, b .read) in
+      let there : scanIn (packet k) (b .said) ≡ bytesOf (p .scan) c = rw same at (back .scan) in
+      let begins : b .said .offset ≡ c .offset = rw same at (back .offset) in
+      let inside : b .at < c .length = omega (arith, ap length there, b .in-its-data, length-take (c .length) (drop (c .offset) (p .scan))) in
+      sym (b .byte)
+      ∙ rw (there, getD-take (c .length) (drop (c .offset) (p .scan)) (b .at) 0 inside, getD-drop (c .offset) (p .scan) (b .at) 0) (ap (λ (j : ℕ). getD (p .scan) j 0) (omega (arith, begins, b .place)))
+
   pub says : Says s p cs k (packet k)
   says =
       let back = ps .read-back k i in

@@ -5,10 +5,7 @@ use mathlib.Core.List.{List, [], _∷_, map}
 use mathlib.Core.Logic.{inl}
 use mathlib.Core.Path.{_≡_, refl, sym, ap, subst, _∙_}
 use native.Mathlib.Omega.{arith}
-use lib.ListN.{length, getD, drop, replicate, length-take}
-use lib.Seq.{getD-take, getD-drop}
-use Rattle.fragments.specs.Fragments.{fragmentAt, bytesOf}
-use Rattle.fragments.specs.declared.Fragment.{Fragment}
+use lib.ListN.{length, getD, replicate}
 use Rattle.laws.specs.Each.{Each, each-parts}
 use Rattle.laws.specs.Truth.{split}
 use Rattle.receiver.specs.Laws.{keeps-well-formed, held-sum, answers-9}
@@ -24,15 +21,15 @@ use Rattle.state.specs.Receiver.{fresh}
 use Rattle.state.specs.WellFormed.{wellFormed}
 use Rattle.state.specs.declared.Receiver.{Receiver}
 use Rattle.wire.specs.Field.{Bytes}
-use Rattle.wire.specs.Reading.{scanIn}
 use Rattle.wire.specs.declared.Packet.{Packet}
 use Rattle.demands.specs.BothSides.{plain}
 use Rattle.demands.specs.Computing.{computes-file, computes-sending, computes-step}
 use Rattle.demands.specs.Delivery.Arrival.{ours}
-use Rattle.demands.specs.Delivery.{Packets, Awaited, Arrival, comes, Arrive, bytesIn, leftBy, Delivered, Delivers}
+use Rattle.demands.specs.Delivery.{Awaited, Arrival, comes, Arrive, bytesIn, leftBy, Delivered, Delivers}
 use Rattle.demands.specs.History.{State, state, Outcome, step, MeetsContract, the-step, after}
 use Rattle.demands.specs.OtherFile.{noFrontEndsSo, no-file}
 use Rattle.demands.specs.Provenance.{Brings, WholeAsBrought}
+use Rattle.demands.specs.Says.{brings-scan}
 use Rattle.demands.specs.Transcript.{first, second}
 use Rattle.demands.specs.TwoPackets.{stamp, four, cs, inTranscript, packets, of-two}
 use Rattle.demands.specs.Useless.{CountsHeld, Wrote, CutsAsSaid, refusing, sayingHeld, neverWriting, claiming, atOffset0, inventing, constant}
@@ -121,18 +118,6 @@ never-writes f d =
     let same = area-stays f start (map (bytesIn inTranscript) arrivals) in
     no-file (leftBy (neverWriting f) inTranscript start arrivals) (ap length same) (ap noFrontEndsSo same ∙ computed .sevens) (delivered (neverWriting f) d .file)
 
--- What a packet of a picture brings for a place is the scan's byte.
-module _ {s : Stamp} {p : Picture} {cs : List Fragment} {packet : ℕ → List ℕ} (ps : Packets s p cs packet) where
-  brings-scan : (k i v : ℕ) → k < length cs → Brings (s .source) (packet k) i v → v ≡ getD (p .scan) i 0
-  brings-scan k i v within b =
-      let c = fragmentAt cs k in
-      let back = ps .read-back k within in
-      let same : back .said ≡ b .said = cc (back .read, b .read) in
-      let there : scanIn (packet k) (b .said) ≡ bytesOf (p .scan) c = rw same at (back .scan) in
-      let short : b .at < c .length = omega (arith, ap length there, b .in-its-data, length-take (c .length) (drop (c .offset) (p .scan))) in
-      let begins : b .said .offset ≡ c .offset = rw same at (back .offset) in
-      sym (b .byte) ∙ rw (there, getD-take (c .length) (drop (c .offset) (p .scan)) (b .at) 0 short, getD-drop (c .offset) (p .scan) (b .at) 0) (ap (λ (j : ℕ). getD (p .scan) j 0) (omega (arith, begins, b .place)))
-
 -- "one that takes the first packet and only claims the others, by demand 3's bytes": byte 2 is none that a packet brought,
 module _ (takes : Receiver → Packet → Bool) (c : Claimed takes) where
   byte-not-brought : WholeAsBrought (claiming takes) → ⊥
@@ -146,7 +131,7 @@ module _ (takes : Receiver → Packet → Bool) (c : Claimed takes) where
       Right q = (v : ℕ) → Brings 1 q 2 v → v ≡ 0xCC
 
       right : (k : ℕ) → k < 2 → Right (inTranscript k)
-      right k within v b = brings-scan packets k 2 v within b
+      right k i v b = brings-scan packets k i 2 v b
 
   -- and the file has it in it
   file-not-theirs : Delivers (claiming takes) → ⊥
