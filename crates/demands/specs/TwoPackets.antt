@@ -164,14 +164,14 @@ another-started-later none =
       starts-one = rw (second-read .time, computed .holds) (or-true (eqb (before .receiver .picture) 0));
     })
 
--- Delivery again of document 01's picture of 173 bytes, which our sender cuts in two where packets are of 192 bytes.
+-- And delivery of document 01's picture of 173 bytes, which our sender cuts in two where packets are of 192 bytes.
 abbrev sentPacket : ℕ → List ℕ
 sentPacket k = Sender.packet stamp (plain 173) k (fragmentAt (cuts 192 (plain 173)) k)
 
 two : length (cuts 192 (plain 173)) ≡ 2
 two = ap length (both-sides .scan-173)
 
-pub passes : (k : ℕ) → k < 2 → judged (checks (plain 173) 192 k) ≡ Passed
+passes : (k : ℕ) → k < 2 → judged (checks (plain 173) 192 k) ≡ Passed
 unfolding computes-sending
 passes = of-two (λ (k : ℕ). judged (checks (plain 173) 192 k) ≡ Passed) refl refl
 
