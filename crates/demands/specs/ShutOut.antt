@@ -8,9 +8,10 @@ use native.Mathlib.Omega.{arith}
 use lib.ListN.{length, getD, replicate}
 use Rattle.laws.specs.Each.{Each, each-parts}
 use Rattle.laws.specs.Truth.{split}
-use Rattle.receiver.specs.Laws.{keeps-well-formed, held-sum, answers-9}
+use Rattle.receiver.specs.Laws.{keeps-well-formed, held-formed, held-else, held-sum, answers-9}
 use Rattle.receiver.specs.Picture.{starts}
-use Rattle.receiver.specs.Step.{held}
+use Rattle.receiver.specs.Step.{held, received}
+use Rattle.receiver.specs.declared.Received.{Received}
 use Rattle.replies.specs.Output.{fitted, answerOf, outputOf, succeeded}
 use Rattle.replies.specs.Reply
 use Rattle.replies.specs.declared.Written.{Written}
@@ -152,10 +153,12 @@ constant-sender f c =
 
 -- The receiver's own count is the sum of the held lengths.
 counts-itself : CountsHeld step
-unfolding held
-counts-itself x p bytes = let r = x .receiver in split (wellFormed r)
-    (λ w. rw (keeps-well-formed r (x .area) p bytes w) (held-sum r (x .area) p w))
-    (λ w. rw (answers-9 r (x .area) p w, w))
+counts-itself x p bytes =
+    let r = x .receiver in
+    split (wellFormed r)
+    (λ w. held-sum r (x .area) p w ∙ sym (held-formed (received r (x .area) p .receiver) (keeps-well-formed r (x .area) p bytes w)))
+    (λ w. let answered = answers-9 r (x .area) p w in
+    ap (λ (d : Received). d .answer .held) answered ∙ sym (ap (λ (d : Received). held (d .receiver)) answered ∙ held-else r w))
 
 -- "an invented byte count, by the reply rule": one that is another than the receiver's, for any packet in any state,
 pub invented-count : (count : State → List ℕ → ℕ) (x : State) (p : List ℕ) → Bytes p → (count x p ≡ step x p .answer .held → ⊥) → CountsHeld (inventing count) → ⊥

@@ -52,6 +52,16 @@ pub record Taken (r : Receiver) (area p : List ℕ) : Type 0 where
   pub accepted : Accepted (pictureFor r packet) packet
   pub decided : decision r area p ≡ accept packet
 
+module _ (r : Receiver) where
+  -- what is held, by whether the receiver is well formed
+  pub held-formed : wellFormed r ≡ true → held r ≡ total (heldFragments r)
+  unfolding held
+  held-formed w = rw w
+
+  pub held-else : wellFormed r ≡ false → held r ≡ 0
+  unfolding held
+  held-else w = rw w
+
 module _ (r : Receiver) (area p : List ℕ) where
   -- a call leaves all as it is, or takes its packet
   pub by-decision : {P : Type 0} → ((n : ℕ) → Left r area p n → decision r area p ≡ leave n → P) → (Taken r area p → P) → P
