@@ -9,11 +9,9 @@ use lib.Seq.{take-append-seam}
 use Rattle.builder.specs.Building.{Builds, fileOf}
 use Rattle.builder.specs.Built.{success-built}
 use Rattle.fragments.specs.Fragments.{fragmentAt}
-use Rattle.fragments.specs.Held.{whole}
 use Rattle.fragments.specs.Tiles.{tiles-inside}
 use Rattle.fragments.specs.declared.Fragment.{Fragment}
-use Rattle.laws.specs.Each.{each-append}
-use Rattle.receiver.specs.Laws.{reply-taken, taken-when}
+use Rattle.receiver.specs.Laws.{whole-flagged}
 use Rattle.receiver.specs.Step.{received, Receives}
 use Rattle.receiver.specs.declared.Received.{Received}
 use Rattle.replies.specs.Checks.{judged}
@@ -30,19 +28,20 @@ use Rattle.sender.specs.Sending.{checks, sending}
 use Rattle.sender.specs.Sent.{Sent, sent, sent-cut}
 use Rattle.sender.specs.declared.Stamp.{Stamp}
 use Rattle.state.specs.Opening.{fresh-well-formed}
-use Rattle.state.specs.Receiver.{fresh, heldFragments}
-use Rattle.state.specs.WellFormed.{flag, wellFormed, well-formed}
+use Rattle.state.specs.Receiver.{fresh}
+use Rattle.state.specs.WellFormed.{wellFormed}
 use Rattle.state.specs.declared.Answer.{Answer}
+use Rattle.state.specs.declared.Receiver.{Receiver}
 use Rattle.wire.specs.Field.{Bytes}
 use Rattle.demands.specs.Arrivals.{first-index, whole-once}
 use Rattle.demands.specs.Arrived.{arrived, Ok, other-comes}
 use Rattle.demands.specs.Delivery.{Packets, FromSender, Awaited, Arrival, Arrive, FileHolds, Delivered, Delivers}
 use Rattle.demands.specs.FirstToCome.{beginning, first-comes}
-use Rattle.demands.specs.History.{State, state, History, Outcome, step, after, answers, MeetsContract, the-step, calls-append, history}
+use Rattle.demands.specs.History.{State, state, History, Outcome, step, after, answers, MeetsContract, the-step, history}
 use Rattle.demands.specs.OneMore.{one-comes}
 use Rattle.demands.specs.Origin.{as-brought}
 use Rattle.demands.specs.Provenance.{AsBrought, WholeAsBrought}
-use Rattle.demands.specs.Reachable.{its-room, its-steps, reachable}
+use Rattle.demands.specs.Reachable.{its-room, its-steps, reachable, one-call-more}
 use Rattle.demands.specs.Whole.{file-holds}
 
 -- from any well-formed receiver with an area as long as its room
@@ -149,28 +148,12 @@ provenance source room packets answered x h whole =
 pub told-as-brought : (source room : ℕ) (packets : List (List ℕ)) (answered : List Answer) (x : State) (h : History source room packets answered x) (p : List ℕ) (a : Answer) (z : State)
     → Bytes p → Receives (x .receiver) (x .area) p (record { answer = a; receiver = z .receiver }) (z .area) → a .reply ≡ Reply.whole
     → AsBrought step (state (fresh source room) (h .area)) (packets ++ (p ∷ [])) z
+unfolding one-call-more
 told-as-brought source room packets answered x h p a z bytes receives told =
-    provenance source room (packets ++ (p ∷ [])) (answered ++ (a ∷ [])) z longer (whole-left (reachable source room (packets ++ (p ∷ [])) (answered ++ (a ∷ [])) z longer .well-formed))
-  where
-    longer : History source room (packets ++ (p ∷ [])) (answered ++ (a ∷ [])) z
-    longer = record {
-      opened = h .opened;
-      opens = h .opens;
-      with-reply-0 = h .with-reply-0;
-      area = h .area;
-      as-long-as-the-room = h .as-long-as-the-room;
-      bytes = each-append Bytes packets (p ∷ []) (h .bytes) (bytes, tt);
-      calls = calls-append (state (h .opened .receiver) (h .area)) packets answered x (p ∷ []) (a ∷ []) z (h .calls) (z, receives, refl);
-    }
-
-    whole-left : wellFormed (z .receiver) ≡ true → z .receiver .whole ≡ 1
-    whole-left well =
-        let r = x .receiver in
-        let reply : received r (x .area) p .answer .reply ≡ 1 = sym (ap (λ (d : Received). d .answer .reply) (receives .answer)) ∙ told in
-        well-formed (z .receiver) well .whole
-        ∙ ap (λ (d : Received). flag (whole (heldFragments (d .receiver)))) (receives .answer)
-        ∙ sym (reply-taken r (x .area) p (taken-when r (x .area) p (omega arith)))
-        ∙ reply
+    let left : z .receiver ≡ received (x .receiver) (x .area) p .receiver = ap (λ (d : Received). d .receiver) (receives .answer) in
+    let reply = sym (ap (λ (d : Received). d .answer .reply) (receives .answer)) ∙ told in
+    let flagged = whole-flagged (x .receiver) (x .area) p bytes (reachable source room packets answered x h .well-formed) reply in
+    provenance source room (packets ++ (p ∷ [])) (answered ++ (a ∷ [])) z (one-call-more h p a z bytes receives) (ap (λ (r : Receiver). r .whole) left ∙ flagged)
 
 -- and so is the picture of a file that `build` has then written with success.
 pub shown : (source room : ℕ) (packets : List (List ℕ)) (answered : List Answer) (x : State) (h : History source room packets answered x) (output : List ℕ) (w : Written) (built : List ℕ)

@@ -30,13 +30,13 @@ use Rattle.wire.specs.Reading.{scanIn}
 use Rattle.wire.specs.declared.Packet.{Packet}
 use Rattle.demands.specs.Arrived.{leaves-all}
 use Rattle.demands.specs.History.{State, step, after, answers, after-append, small-accepted}
-use Rattle.demands.specs.Provenance.{InExactlyOne, StartsPicture, NoneStarts, Brought, AsBrought}
+use Rattle.demands.specs.Provenance.{InExactlyOne, StartsPicture, NoneStarts, ByteBrought, AsBrought}
 use Rattle.demands.specs.Reachable.{Reached, stays}
 
 -- After these packets, which came to x: what is held was brought by them. A time stamp has 32 bits.
 record Known (x : State) (packets : List (List ℕ)) (y : State) : Type 0 where
   time : y .receiver .time < 2 ^ 32
-  held : (i : ℕ) → any (holds i) (heldFragments (y .receiver)) ≡ true → Brought step x packets y i
+  held : (i : ℕ) → any (holds i) (heldFragments (y .receiver)) ≡ true → ByteBrought step x packets y i
 
 -- ---- laws
 
@@ -59,7 +59,7 @@ module _ (x : State) (past : List (List ℕ)) (p : List ℕ) where
   z = step y p .left
 
   -- what was brought for the picture held is so still, where p starts none, and changes neither the picture nor the byte
-  brought-before : (i : ℕ) → (StartsPicture step y p → ⊥) → z .receiver .time ≡ r .time → headerOf (z .receiver) ≡ headerOf r → getD (z .area) i 0 ≡ getD area i 0 → Brought step x past y i → Brought step x (past ++ (p ∷ [])) z i
+  brought-before : (i : ℕ) → (StartsPicture step y p → ⊥) → z .receiver .time ≡ r .time → headerOf (z .receiver) ≡ headerOf r → getD (z .area) i 0 ≡ getD area i 0 → ByteBrought step x past y i → ByteBrought step x (past ++ (p ∷ [])) z i
   brought-before i not time header byte b = record {
     before = b .before;
     packet = b .packet;
@@ -111,7 +111,7 @@ module _ (x : State) (past : List (List ℕ)) (p : List ℕ) where
       same-time = time-taken r area p t (k .time) its-time
 
       -- a place that it covers
-      brought-now : (i : ℕ) → holds i (fragmentOf s) ≡ true → Brought step x (past ++ (p ∷ [])) z i
+      brought-now : (i : ℕ) → holds i (fragmentOf s) ≡ true → ByteBrought step x (past ++ (p ∷ [])) z i
       brought-now i h =
           let b = held-at i (fragmentOf s) h in
           record {
@@ -134,7 +134,7 @@ module _ (x : State) (past : List (List ℕ)) (p : List ℕ) where
           }
 
       -- and one that was held: p goes on with the picture, for one that it begins holds nothing
-      brought-earlier : (i : ℕ) → holds i (fragmentOf s) ≡ false → any (holds i) (heldFragments v) ≡ true → Brought step x (past ++ (p ∷ [])) z i
+      brought-earlier : (i : ℕ) → holds i (fragmentOf s) ≡ false → any (holds i) (heldFragments v) ≡ true → ByteBrought step x (past ++ (p ∷ [])) z i
       brought-earlier i out h = split (starts r s)
           (λ new. absurd (never-both h (ap (λ (u : Receiver). any (holds i) (heldFragments u)) (picture-begun r s new))))
           (λ old. let same = picture-held r s old in

@@ -51,7 +51,7 @@ module _ (step : State → List ℕ → Outcome State) where
 
   -- Among packets that came to x, and have left y of it, is one that brought what is at place i of the area, and was accepted for the
   -- picture that y holds: none that came later started another, and it is of that picture's time stamp and header fields.
-  pub record Brought (x : State) (packets : List (List ℕ)) (y : State) (i : ℕ) : Type 0 where
+  pub record ByteBrought (x : State) (packets : List (List ℕ)) (y : State) (i : ℕ) : Type 0 where
     pub before : List (List ℕ)
     pub packet : List ℕ
     pub later : List (List ℕ)
@@ -67,7 +67,7 @@ module _ (step : State → List ℕ → Outcome State) where
     pub end-known : 0 < y .receiver .end
     pub in-the-area : y .receiver .end ≤ length (y .area)
     pub no-gap : (i : ℕ) → i < y .receiver .end → InExactlyOne i (heldFragments (y .receiver))
-    pub each-byte : (i : ℕ) → i < y .receiver .end → Brought x packets y i
+    pub each-byte : (i : ℕ) → i < y .receiver .end → ByteBrought x packets y i
 
   -- The sentence: from open on, after any packets of bytes, a picture that is whole is as brought.
   abbrev pub WholeAsBrought : Type 0

@@ -1,14 +1,15 @@
 -- What holds after every history. Assumes nothing.
 use Prim.Native.Nat.{ℕ}
 use mathlib.Core.Bool.{true}
-use mathlib.Core.List.{List, [], _∷_}
+use mathlib.Core.List.{List, [], _∷_, _++_}
 use mathlib.Core.Path.{_≡_, refl, sym, ap, _∙_}
 use lib.ListN.{length}
 use Rattle.builder.specs.Building.{Builds}
 use Rattle.builder.specs.Built.{replied as built-replied}
-use Rattle.laws.specs.Each.{Each}
+use Rattle.laws.specs.Each.{Each, each-append}
 use Rattle.laws.specs.Within.{Between}
 use Rattle.receiver.specs.Laws.{keeps-well-formed, area-long, source-stays, room-stays, replied}
+use Rattle.receiver.specs.Step.{Receives}
 use Rattle.replies.specs.Reply
 use Rattle.replies.specs.declared.Written.{Written}
 use Rattle.state.specs.Opening.{opens, opened-room, fresh-well-formed}
@@ -17,7 +18,7 @@ use Rattle.state.specs.WellFormed.{wellFormed}
 use Rattle.state.specs.declared.Answer.{Answer}
 use Rattle.state.specs.declared.Opened.{Opened}
 use Rattle.wire.specs.Field.{Bytes}
-use Rattle.demands.specs.History.{State, state, History, step, after, answers, calls-step}
+use Rattle.demands.specs.History.{State, state, History, step, after, answers, calls-step, calls-append}
 
 -- What holds of the answers up to a state, and of the state, which is that of a receiver opened with this source and room.
 pub record Reached (source room : ℕ) (answered : List Answer) (x : State) : Type 0 where
@@ -68,3 +69,16 @@ pub builds : (source room : ℕ) (packets : List (List ℕ)) (answered : List An
 builds source room packets answered x before w after h met =
     let r = reachable source room packets answered x h in
     built-replied (x .receiver) (x .area) met (r .well-formed) (r .as-long-as-the-room ∙ sym (r .room-stays))
+
+-- A history with one call more is a history.
+module _ {source room : ℕ} {packets : List (List ℕ)} {answered : List Answer} {x : State} (h : History source room packets answered x) where
+  unfoldable pub one-call-more : (p : List ℕ) (a : Answer) (z : State) → Bytes p → Receives (x .receiver) (x .area) p (record { answer = a; receiver = z .receiver }) (z .area) → History source room (packets ++ (p ∷ [])) (answered ++ (a ∷ [])) z
+  one-call-more p a z bytes receives = record {
+    opened = h .opened;
+    opens = h .opens;
+    with-reply-0 = h .with-reply-0;
+    area = h .area;
+    as-long-as-the-room = h .as-long-as-the-room;
+    bytes = each-append Bytes packets (p ∷ []) (h .bytes) (bytes, tt);
+    calls = calls-append (state (h .opened .receiver) (h .area)) packets answered x (p ∷ []) (a ∷ []) z (h .calls) (z, receives, refl);
+  }

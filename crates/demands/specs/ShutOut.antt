@@ -33,7 +33,7 @@ use Rattle.demands.specs.Provenance.{Brings, WholeAsBrought}
 use Rattle.demands.specs.Says.{brings-scan}
 use Rattle.demands.specs.Transcript.{first, second}
 use Rattle.demands.specs.TwoPackets.{stamp, four, cs, inTranscript, packets, of-two}
-use Rattle.demands.specs.Useless.{CountsHeld, Wrote, CutsAsSaid, refusing, sayingHeld, neverWriting, claiming, atOffset0, inventing, constant}
+use Rattle.demands.specs.Useless.{CountsHeld, Gave, CutsAsSaid, refusing, sayingHeld, neverWriting, claiming, atOffset0, inventing, constant}
 
 -- The picture of document 01's transcript, whose two packets come in order to a fresh receiver.
 abbrev start : State
@@ -145,7 +145,7 @@ pub only-claims-file : (Delivers (claiming starts) → ⊥) × (Delivers (claimi
 only-claims-file = (file-not-theirs starts (computed .but-the-start), file-not-theirs atOffset0 (computed .but-offset-0))
 
 -- "a constant sender", whatever it gives: the first packet has 192 bytes, and the second 21
-pub constant-sender : (f : Picture → ℕ → Stamp → List ℕ → Wrote) → CutsAsSaid (constant f) → ⊥
+pub constant-sender : (f : Picture → ℕ → Stamp → List ℕ → Gave) → CutsAsSaid (constant f) → ⊥
 constant-sender f c =
     let ask : (k : ℕ) → f (plain 173) 192 stamp (replicate 192 0) .answer ≡ askedFor k = λ k. c (plain 173) 192 stamp k (replicate 192 0) .answer in
     let differ : succeeded 192 ≡ succeeded 21 = sym (ask 0 ∙ computed .packet-0) ∙ ask 1 ∙ computed .packet-1 in

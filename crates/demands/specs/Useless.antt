@@ -26,12 +26,12 @@ abbrev pub CountsHeld : (State → List ℕ → Outcome State) → Type 0
 CountsHeld f = (x : State) (p : List ℕ) → Bytes p → f x p .answer .held ≡ held (f x p .left .receiver)
 
 -- What a sender gives that is asked for packet k of a picture: an answer, and the output afterwards.
-pub record Wrote : Type 0 where
+pub record Gave : Type 0 where
   pub answer : Written
   pub output : List ℕ
 
 abbrev pub Sender : Type 0
-Sender = Picture → ℕ → Stamp → ℕ → List ℕ → Wrote
+Sender = Picture → ℕ → Stamp → ℕ → List ℕ → Gave
 
 -- Demand 2, "Packets are cut as RFC 2435 says": it meets the contract of `sender::packet`.
 abbrev pub CutsAsSaid : Sender → Type 0
@@ -68,5 +68,5 @@ abbrev pub inventing : (State → List ℕ → ℕ) → State → List ℕ → O
 inventing count x p = record { answer = record { reply = step x p .answer .reply; held = count x p }; left = step x p .left }
 
 -- "A constant sender": whichever packet it is asked for, it gives the same.
-abbrev pub constant : (Picture → ℕ → Stamp → List ℕ → Wrote) → Sender
+abbrev pub constant : (Picture → ℕ → Stamp → List ℕ → Gave) → Sender
 constant f p size s k before = f p size s before

@@ -2,7 +2,7 @@
 use Prim.Native.Nat.{ℕ, _^_, _≤_, _<_}
 use mathlib.Core.Bool.{Bool, true, false}
 use mathlib.Core.List.{List, [], _∷_}
-use mathlib.Core.Path.{_≡_, refl, ap, _∙_}
+use mathlib.Core.Path.{_≡_, refl, sym, ap, _∙_}
 use native.Mathlib.Omega.{arith}
 use borrow.Author.Tests.{leb-true, eqb-true, eqb-false, eq-eqb, ne-eqb}
 use lib.Dec.{eqb, leb}
@@ -211,6 +211,13 @@ module _ (r : Receiver) (area p : List ℕ) where
       let read = read-packet (r .source) p s (t .read) bytes in
       let v = pictureFor r s in
       rw (t .decided) (is-well-formed (taken v p s) (taken-well-formed v p s (well-formed v (picture-well-formed r s w (read .header))) read (t .accepted))))
+
+  -- with the reply whole, the flag says so too
+  pub whole-flagged : Bytes p → wellFormed r ≡ true → received r area p .answer .reply ≡ Reply.whole → received r area p .receiver .whole ≡ 1
+  whole-flagged bytes w e =
+      well-formed (received r area p .receiver) (keeps-well-formed bytes w) .whole
+      ∙ sym (reply-taken r area p (taken-when r area p (omega arith)))
+      ∙ e
 
   pub area-long : length (areaAfter r area p) ≡ length area
   unfolding areaAfter
