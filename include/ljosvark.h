@@ -1,4 +1,4 @@
-/* Ljosvark: the C interface of libljosvark.a.
+/* Ljosvark: the C interface of libljosvark.a, for C99 and later and for C++, on Linux on x86-64. The calls stand at the end.
  *
  * Every call has a defined reply for every input: no number, byte or length is one that the host has to check first.
  *
@@ -61,8 +61,14 @@ enum {
     LJ_PACKET_OUTPUT = 46        /* sender: the output is shorter than the packet */
 };
 
-/* The most bytes that a picture's file has beside its scan: a head of 611, and the two of the closing marker. */
-enum { LJ_FILE_BESIDE_SCAN = 613 };
+/* How much memory a host may need. */
+enum {
+    LJ_LARGEST_ROOM = 65536,     /* the longest scan that is sent or received */
+    LJ_LONGEST_PACKET = 2048,    /* the longest packet that lj_receive takes */
+    LJ_LONGEST_SENT = 1472,      /* the longest packet that lj_packet writes */
+    LJ_TABLES_LENGTH = 128,      /* what lj_make_tables writes */
+    LJ_FILE_BESIDE_SCAN = 613    /* the most that a file has beside its scan: a head of 611, and the closing marker's 2 */
+};
 
 /* What a call that writes answers: a reply, and the length written, which is 0 with a refusal. */
 typedef struct {

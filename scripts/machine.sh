@@ -3,7 +3,8 @@
 #   cc_x86     the C compiler for x86-64
 #   emulator   what runs an x86-64 program here; nothing on x86-64
 #   toolchain  the folder of Rattle's own loader and C library
-# and has links_c, which tries that compiler, and need, which installs what is missing.
+# and has links_c, which tries that compiler, has_jpeg_programs, for an encoder and a decoder, and need, which installs what is
+# missing.
 
 machine=$(uname -m)
 guide=$(rt doc) || { echo "rt, Rattle's command, is not on the path" >&2; exit 1; }
@@ -26,6 +27,8 @@ aarch64)
 esac
 
 links_c() { echo 'int main(void) { return 0; }' | "$cc_x86" -x c -static -o /dev/null - 2>/dev/null; }
+
+has_jpeg_programs() { command -v cjpeg >/dev/null && command -v djpeg >/dev/null; }
 
 # need TEST PACKAGE..: installs Debian's packages where the test fails, and says so where that does not mend it.
 need() {

@@ -23,6 +23,10 @@ use Rattle.state.specs.WellFormed.{Inspects, TellsWhole}
 use Rattle.state.specs.declared.Answer.{Answer}
 use Rattle.state.specs.declared.Receiver.{Receiver}
 use Rattle.tables.specs.MakeTables.{MakesTables}
+use Rattle.tally.specs.Tally.{CountsNothing, Adds, Closes, TellsAccepted}
+use Rattle.tally.specs.declared.Tally.{Tally}
+use Rattle.text.specs.FileName.{Names, names-determined}
+use Rattle.text.specs.Number.{TellsNumber}
 use Rattle.wire.specs.Kind.{TellsRestarts}
 use Rattle.wire.specs.Lawful.{TellsLawful}
 use Rattle.wire.specs.Reading.{Reads, GivesScan, GivesTables}
@@ -168,3 +172,23 @@ record-length bytes = only
 
 pub take-record : (r : Receiver) (area bytes : List ℕ) → DeterminesBoth (Takes r area bytes)
 take-record r area bytes t t′ after after′ a b = (only t t′ (a .taken) (b .taken), only after after′ (a .lent) (b .lent))
+
+-- the counts of a run: `tally::none`, `tally::add`, `tally::close` and `tally::accepted`
+pub no-counts : Determines CountsNothing
+no-counts = only
+
+pub add-count : (t : Tally) (before : Receiver) (answer : Answer) (after : Receiver) → Determines (Adds t before answer after)
+add-count t before answer after = only
+
+pub close-counts : (t : Tally) (last : Receiver) → Determines (Closes t last)
+close-counts t last = only
+
+pub accepted : (t : Tally) → Determines (TellsAccepted t)
+accepted t = only
+
+-- `text::number`, and `text::file_name`: the answer and the output
+pub number : (text : List ℕ) → Determines (TellsNumber text)
+number text = only
+
+pub file-name : (prefix : List ℕ) (n : ℕ) (before : List ℕ) → DeterminesBoth (Names prefix n before)
+file-name prefix n before a a′ after after′ x y = names-determined x y

@@ -18,6 +18,7 @@ pub mod OneMore
 pub mod Whole
 pub mod FirstToCome
 pub mod Origin
+pub mod GivenUp
 pub mod Demand3
 pub mod TwoPackets
 pub mod OtherFile

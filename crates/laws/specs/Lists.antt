@@ -27,7 +27,8 @@ fill-suc (x ∷ new) (y ∷ old) (suc i) h g = ap (λ (l : List ℕ). x ∷ l) (
 pub fill-more : (new old : List ℕ) (i : ℕ) → i < length new → i < length old → set (take i new ++ drop i old) i (getD new i 0) ≡ take (i + 1) new ++ drop (i + 1) old
 fill-more new old i h g = rw add-one (fill-suc new old i h g)
 
-drop-replicate : (n m : ℕ) (a : ℕ) → drop n (replicate m a) ≡ replicate (m - n) a
+-- Of a number that stands m times, what is left behind n places.
+pub drop-replicate : (n m : ℕ) (a : ℕ) → drop n (replicate m a) ≡ replicate (m - n) a
 drop-replicate zero m a = rw (sub-zero m)
 drop-replicate (suc n) zero a = rw (zero-sub (suc n))
 drop-replicate (suc n) (suc m) a = rw (suc-sub-suc m n) (drop-replicate n m a)

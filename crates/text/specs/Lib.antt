@@ -1,0 +1,3 @@
+pub mod FileName
+pub mod Number
+pub mod Reading
