@@ -55,6 +55,7 @@ static void put_shuffled(const packet *packets, uint32_t count) {
 static uint32_t number(const char *word, uint32_t most) {
     char *end;
     unsigned long long n = strtoull(word, &end, 0);
+    doing = word;
     must('0' <= word[0] && word[0] <= '9' && *end == '\0' && n <= most, "not a number, or too large");
     return (uint32_t)n;
 }
@@ -63,8 +64,8 @@ int main(int argc, char **argv) {
     static uint8_t file[2 * LJ_LARGEST_ROOM];
     static packet packets[PACKETS_MOST];
     uint16_t start = 65530; /* the sequence numbers may begin anywhere, and go on from 0 behind 65,535 */
-    doing = "usage: sounder SOURCE (QUALITY PICTURE).. >RECORDS";
-    must(argc >= 4 && argc % 2 == 0, "other words");
+    doing = "usage";
+    must(argc >= 4 && argc % 2 == 0, "sounder SOURCE (QUALITY PICTURE).. >RECORDS");
     uint32_t source = number(argv[1], UINT32_MAX);
     for (int i = 2; i < argc; i += 2) {
         jpeg picture;

@@ -35,7 +35,7 @@ need() {
     local test=$1
     shift
     $test && return
-    echo "installing $*"
+    echo "installing $*" >&2
     { apt-get update -qq && DEBIAN_FRONTEND=noninteractive apt-get install -y -qq --no-install-recommends "$@"; } >/dev/null 2>&1
     $test && return
     echo "cannot install $* with apt-get: $test still fails" >&2

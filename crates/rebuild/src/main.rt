@@ -11,6 +11,7 @@ use records::Next;
 use records::Taken;
 use replies::WHOLE;
 use state::Receiver;
+use tally::Tally;
 use text::Said;
 
 fn main() {
@@ -62,12 +63,18 @@ fn run(source: u32, prefix: &[u8]) {
         receiver = next;
         count += 1;
         if answer.reply == WHOLE {
-            if !picture::save(receiver, &area, prefix, report::wholes(tally)) {
+            if !picture::save(receiver, &area, prefix, wholes(tally)) {
                 not_written += 1;
             }
         }
     }
     report_read_error();
+}
+
+// The pictures that have become whole: each is answered so once.
+fn wholes(tally: Tally) -> u64 {
+    let replies = tally.replies;
+    replies[WHOLE as usize]
 }
 
 fn take_next(receiver: Receiver, area: &mut [u8], buffer: &mut [u8]) -> Taken

@@ -13,8 +13,11 @@ pub(crate) fn save(receiver: Receiver, area: &[u8], prefix: &[u8], number: u64) 
     slices::put(b".part", length, &mut name);
     let part = slices::part(&name, 0, length + 5);
     let name = slices::part(&name, 0, length);
-    if put_whole(name, part, slices::part(&file, 0, built.length as usize)) {
-        return true;
+    // Always so: the picture is whole, and there is room for the longest file.
+    if built.reply == SUCCESS {
+        if put_whole(name, part, slices::part(&file, 0, built.length as usize)) {
+            return true;
+        }
     }
     io::write_all(STDERR_FILENO, b"not written: ");
     os::fail(name);

@@ -1,8 +1,8 @@
 // What a run came to, for people to read.
+use crate::wholes;
 use libc::STDOUT_FILENO;
 use records::Next;
 use replies::AGAIN;
-use replies::WHOLE;
 use tally::Tally;
 
 pub(crate) fn write(tally: Tally, came: Next, not_written: u64) {
@@ -12,14 +12,9 @@ pub(crate) fn write(tally: Tally, came: Next, not_written: u64) {
     write_count(b"accepted", tally::accepted(tally));
     write_count(b"repeated", replies[AGAIN as usize]);
     write_refusals(replies);
-    write_count(b"pictures whole", replies[WHOLE as usize]);
+    write_count(b"pictures whole", wholes(tally));
     write_count(b"pictures given up unfinished", tally.given_up);
     write_count(b"files not written", not_written);
-}
-
-pub(crate) fn wholes(tally: Tally) -> u64 {
-    let replies = tally.replies;
-    replies[WHOLE as usize]
 }
 
 // A line for each refusal that occurred, in the order of the numbers.
