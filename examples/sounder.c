@@ -1,7 +1,6 @@
-/* The other end, for trying a plotter without a sounder: `sounder SOURCE (QUALITY PICTURE)..` sends JPEG files such as cjpeg
- * writes, and puts the packets on standard output as records of RFC 4571. As on a bad network, those of a picture come in
- * any order, and about every third comes again later. QUALITY is the one that the file was encoded with, 1 to 99, which is
- * RFC 2435's Q too; with 0 the file's own tables are sent along, as Q 255 has it. */
+/* The other end, for trying a plotter without a sounder: `sounder SOURCE PICTURE..` sends JPEG files, such as `cjpeg -baseline`
+ * writes with sampling 2x1 or 2x2, and puts the packets on standard output as records of RFC 4571. As on a bad network, those
+ * of a picture come in any order, and about every third comes again later. */
 #include "jpeg_file.h"
 #include "ljosvark.h"
 
@@ -19,15 +18,25 @@ typedef struct {
     uint32_t length;
 } packet;
 
-/* A picture's packets, in order, behind `start` in their numbering; answers how many there are. */
-static uint32_t send(const jpeg *j, uint32_t quality, uint16_t start, uint32_t time, uint32_t source, packet *packets) {
-    uint32_t q = quality != 0 ? quality : 255, k;
-    size_t tables_len = quality != 0 ? 0 : LJ_TABLES_LENGTH;
+/* The Q from which a receiver makes the file's quantiser tables, or 255, with which they are sent along. */
+static uint32_t q_of(const jpeg *j) {
+    uint8_t made[LJ_TABLES_LENGTH];
+    for (uint32_t q = 1; q <= 99; q++) {
+        lj_make_tables(q, made, sizeof made);
+        if (memcmp(made, j->quantisers, sizeof made) == 0) return q;
+    }
+    return 255;
+}
+
+/* A picture's packets, in order, with sequence numbers from `start` on; answers how many there are. */
+static uint32_t send(const jpeg *j, uint16_t start, uint32_t time, uint32_t source, packet *packets) {
+    uint32_t q = q_of(j), k;
+    size_t tables_len = q < 255 ? 0 : LJ_TABLES_LENGTH;
     for (k = 0; k < PACKETS_MOST; k++) {
         lj_written sent = lj_packet(type_of(j), q, j->width / 8, j->height / 8, j->interval, j->quantisers, tables_len, j->scan,
                                     j->scan_len, LJ_LONGEST_SENT, start, time, source, k, packets[k].bytes, LJ_LONGEST_SENT);
         if (sent.reply == LJ_INDEX_TOO_LARGE) break; /* packet k - 1 was the last */
-        must(sent.reply == LJ_SUCCESS, "the sender does not take it: its sides, its scan's length or its tables");
+        must(sent.reply == LJ_SUCCESS, "the sender does not take it, for its sides or the length of its scan");
         packets[k].length = sent.length;
     }
     return k;
@@ -52,27 +61,19 @@ static void put_shuffled(const packet *packets, uint32_t count) {
     }
 }
 
-static uint32_t number(const char *word, uint32_t most) {
-    char *end;
-    unsigned long long n = strtoull(word, &end, 0);
-    doing = word;
-    must('0' <= word[0] && word[0] <= '9' && *end == '\0' && n <= most, "not a number, or too large");
-    return (uint32_t)n;
-}
-
 int main(int argc, char **argv) {
     static uint8_t file[2 * LJ_LARGEST_ROOM];
     static packet packets[PACKETS_MOST];
     uint16_t start = 65530; /* the sequence numbers may begin anywhere, and go on from 0 behind 65,535 */
+    char *end = "?";
+    unsigned long long source = argc > 2 ? strtoull(argv[1], &end, 0) : 0;
     doing = "usage";
-    must(argc >= 4 && argc % 2 == 0, "sounder SOURCE (QUALITY PICTURE).. >RECORDS");
-    uint32_t source = number(argv[1], UINT32_MAX);
-    for (int i = 2; i < argc; i += 2) {
+    must(end != argv[1] && *end == '\0' && source <= UINT32_MAX, "sounder SOURCE PICTURE.., where SOURCE is a number of 32 bits");
+    for (int i = 2; i < argc; i++) {
         jpeg picture;
-        uint32_t quality = number(argv[i], 99);
-        doing = argv[i + 1];
-        read_jpeg(&picture, file, read_file(argv[i + 1], file, sizeof file));
-        uint32_t count = send(&picture, quality, start, (uint32_t)i * TIME_BETWEEN, source, packets);
+        doing = argv[i];
+        read_jpeg(&picture, file, read_file(argv[i], file, sizeof file));
+        uint32_t count = send(&picture, start, (uint32_t)i * TIME_BETWEEN, (uint32_t)source, packets);
         put_shuffled(packets, count);
         start += (uint16_t)count;
     }
