@@ -11,7 +11,7 @@ use Rattle.laws.specs.Truth.{split, never-both, and-true, same, other}
 use Rattle.receiver.specs.Laws.{Taken, by-decision, when-left, when-accepted, reply-small, taken-when}
 use Rattle.receiver.specs.Picture.{starts, pictureFor, picture-begun, picture-held}
 use Rattle.receiver.specs.Step.{received, taken}
-use Rattle.receiver.specs.Time.{isNewer, not-newer}
+use Rattle.receiver.specs.Time.{isNewer, newer-differs}
 use Rattle.receiver.specs.declared.Received.{Received}
 use Rattle.state.specs.declared.Receiver.{Receiver}
 use Rattle.tally.specs.Tally.{isUnfinished, givesUp}
@@ -24,11 +24,11 @@ of-another-time : (r : Receiver) (s : Packet) → isUnfinished r ≡ true → st
 of-another-time r s unfinished new e =
     let held = eqb-true (r .picture) 1 (and-true (eqb (r .picture) 1) (not (eqb (r .whole) 1)) unfinished .0) in
     let newer : isNewer (s .time) (r .time) ≡ true = rw (ne-eqb (r .picture) 0 (λ z. omega arith)) at new in
-    never-both (rw e at newer) (not-newer (s .time))
+    newer-differs (s .time) (r .time) newer e
 
 module _ (r : Receiver) (area p : List ℕ) where
   -- a packet that is taken leaves the time stamp of the picture that it is for
-  time-then : (t : Taken r area p) → received r area p .receiver .time ≡ pictureFor r (t .packet) .time
+  pub time-then : (t : Taken r area p) → received r area p .receiver .time ≡ pictureFor r (t .packet) .time
   unfolding taken
   time-then t = ap (λ (d : Received). d .receiver .time) (when-accepted r area p (t .decided) .0)
 

@@ -19,6 +19,7 @@ pub mod Whole
 pub mod FirstToCome
 pub mod Origin
 pub mod GivenUp
+pub mod Begun
 pub mod Demand3
 pub mod TwoPackets
 pub mod OtherFile

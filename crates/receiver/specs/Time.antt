@@ -45,6 +45,9 @@ module _ (t : ℕ) where
   pub not-behind : isBehind t t ≡ false
   not-behind = rw ahead-none (lt-leb (2 ^ 31) 0 (omega arith))
 
+pub newer-differs : (t h : ℕ) → isNewer t h ≡ true → h ≡ t → ⊥
+newer-differs t h newer e = never-both (rw e at newer) (not-newer t)
+
 -- and one that is neither the other nor newer is behind it
 pub behind-else : (t h : ℕ) → t < 2 ^ 32 → h < 2 ^ 32 → (t ≡ h → ⊥) → isNewer t h ≡ false → isBehind t h ≡ true
 unfolding ahead

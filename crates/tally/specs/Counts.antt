@@ -1,15 +1,16 @@
 -- What the tally of a whole run says. Assumes nothing.
 use Prim.Native.Nat.{ℕ, zero, suc, _+_, _<_}
-use mathlib.Core.Bool.{Bool, true, false, cond}
+use mathlib.Core.Bool.{Bool, true, false, cond, _||_}
 use mathlib.Core.List.{List, [], _∷_}
 use mathlib.Core.Path.{_≡_, refl, ap, _∙_}
 use native.Mathlib.Nat.{add-zero, zero-add, not-suc-le-zero, le-of-suc-le-suc}
 use native.Mathlib.Omega.{arith}
 use lib.Dec.{eqb, eqb·zero-suc, eqb·suc-zero, eqb·suc-suc}
 use lib.ListN.{length, getD, getD-replicate}
+use Rattle.replies.specs.Reply
 use Rattle.state.specs.declared.Answer.{Answer}
 use Rattle.state.specs.declared.Receiver.{Receiver}
-use Rattle.tally.specs.Tally.{counted, oneMoreIf, raised, givesUp, none, added}
+use Rattle.tally.specs.Tally.{counted, oneMoreIf, raised, isUnfinished, givesUp, none, added, closed, TellsAccepted}
 use Rattle.tally.specs.declared.Tally.{Tally}
 
 -- What `add` is told of one packet.
@@ -27,12 +28,20 @@ abbrev pub howMany : (Call → Bool) → List Call → ℕ
 howMany test [] = 0
 howMany test (c ∷ calls) = cond (test c) (howMany test calls + 1) (howMany test calls)
 
+-- Accepted is held or whole.
+abbrev pub isAccepted : Call → Bool
+isAccepted c = eqb (c .answer .reply) Reply.held || eqb (c .answer .reply) Reply.whole
+
 -- ---- laws
 
 -- One more, of a count that may have come to 2^64 before.
 more : (so : Bool) (k : ℕ) → oneMoreIf so (counted k) ≡ counted (cond so (k + 1) k)
 more true k = omega arith
 more false k = refl
+
+more-with : (so : Bool) (k : ℕ) → oneMoreIf so (counted k) ≡ counted (k + cond so 1 0)
+more-with true k = omega arith
+more-with false k = omega arith
 
 either-one : (so : Bool) (k n : ℕ) → cond so (k + 1) k + n ≡ k + cond so (n + 1) n
 either-one true k n = omega arith
@@ -66,6 +75,16 @@ howMany-all : (calls : List Call) → howMany (λ (c : Call). true) calls ≡ le
 howMany-all [] = refl
 howMany-all (c ∷ calls) = omega (arith, howMany-all calls)
 
+-- no number is both, so that a call is counted under one of the two or under neither
+either-reply : (n k l : ℕ) → cond (eqb n 0 || eqb n 1) (k + l + 1) (k + l) ≡ cond (eqb n 0) (k + 1) k + cond (eqb n 1) (l + 1) l
+either-reply zero k l = omega arith
+either-reply (suc zero) k l = omega arith
+either-reply (suc (suc n)) k l = rw (eqb·suc-suc (suc n) 0, eqb·suc-zero n, eqb·suc-zero (suc n))
+
+howMany-accepted : (calls : List Call) → howMany isAccepted calls ≡ howMany (λ (c : Call). eqb (c .answer .reply) Reply.held) calls + howMany (λ (c : Call). eqb (c .answer .reply) Reply.whole) calls
+howMany-accepted [] = refl
+howMany-accepted (c ∷ calls) = rw (howMany-accepted calls) (either-reply (c .answer .reply) _ _)
+
 module _ (calls : List Call) where
   -- The packets that came.
   pub all-read : tallied none calls .read ≡ counted (length calls)
@@ -83,3 +102,12 @@ module _ (calls : List Call) where
   pub each-given-up : tallied none calls .«given_up» ≡ counted (howMany (λ (c : Call). givesUp (c .before) (c .after)) calls)
   unfolding added
   each-given-up = counts-all (λ (t : Tally). t .«given_up») (λ (c : Call). givesUp (c .before) (c .after)) (λ t c long. refl) refl calls
+
+  -- How many of them were accepted, where a tally tells it.
+  pub all-accepted : (n : ℕ) → TellsAccepted (tallied none calls) n → n ≡ counted (howMany isAccepted calls)
+  all-accepted n told = told ∙ rw (each-reply Reply.held (omega arith), each-reply Reply.whole (omega arith), howMany-accepted calls) (omega arith)
+
+  -- How many pictures were given up, with the one that is held unfinished at the end.
+  pub all-given-up : (last : Receiver) → closed (tallied none calls) last .«given_up» ≡ counted (howMany (λ (c : Call). givesUp (c .before) (c .after)) calls + cond (isUnfinished last) 1 0)
+  unfolding closed
+  all-given-up last = rw each-given-up (more-with (isUnfinished last) _)

@@ -1,6 +1,6 @@
 -- Digits read one behind the other, up to what 32 bits do not hold. Assumes nothing.
 use Prim.Native.Nat.{ℕ, _+_, _*_, _^_, _≤_, _<_, min}
-use mathlib.Core.Bool.{Bool, cond, not, _&&_}
+use mathlib.Core.Bool.{cond, not, _&&_}
 use mathlib.Core.List.{List, [], _∷_, _++_}
 use mathlib.Core.Path.{_≡_}
 use native.Mathlib.Nat.{pow-zero, pow-suc, add-mul, mul-assoc, le-mul-of-pos-right}
