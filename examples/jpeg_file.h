@@ -118,7 +118,7 @@ static inline void read_jpeg(jpeg *j, const uint8_t *file, size_t length) {
 static inline uint32_t type_of(const jpeg *j) {
     must(j->width % 8 == 0 && j->height % 8 == 0, "sides that are no multiples of 8");
     must(j->sampling[0] == 0x21 || j->sampling[0] == 0x22, "luma that is sampled otherwise than 2x1 or 2x2");
-    return (j->sampling[0] == 0x21 ? 0 : 1) + (j->interval != 0 ? 64 : 0);
+    return (j->sampling[0] == 0x21 ? 0u : 1u) + (j->interval != 0 ? 64u : 0u);
 }
 
 static inline size_t read_file(const char *name, uint8_t *bytes, size_t most) {
