@@ -1,14 +1,14 @@
--- When a call gives a picture up: the tally looks only at the receivers before and after it, and at neither packet nor reply. Assumes
--- nothing.
-use Prim.Native.Nat.{ℕ}
+-- When a call gives a picture up: the tally looks only at the receivers before and after it, and at neither packet nor reply. And that
+-- each reply has its place among the counts. Assumes nothing.
+use Prim.Native.Nat.{ℕ, _<_}
 use mathlib.Core.Bool.{true, not}
 use mathlib.Core.List.{List}
-use mathlib.Core.Path.{_≡_, sym, ap, _∙_}
+use mathlib.Core.Path.{_≡_, refl, sym, ap, _∙_}
 use native.Mathlib.Omega.{arith}
-use borrow.Author.Tests.{eqb-true, ne-eqb}
-use lib.Dec.{eqb}
+use borrow.Author.Tests.{eqb-true, ne-eqb, ltb-true}
+use lib.Dec.{eqb, ltb}
 use Rattle.laws.specs.Truth.{split, never-both, and-true, same, other}
-use Rattle.receiver.specs.Laws.{Taken, by-decision, when-left, when-accepted, reply-small, taken-when}
+use Rattle.receiver.specs.Laws.{Taken, by-decision, left-by, when-left, when-accepted, reply-small, taken-when}
 use Rattle.receiver.specs.Picture.{starts, pictureFor, picture-begun, picture-held}
 use Rattle.receiver.specs.Step.{received, taken}
 use Rattle.receiver.specs.Time.{isNewer, newer-differs}
@@ -53,3 +53,9 @@ module _ (r : Receiver) (area p : List ℕ) where
       let new : starts r (t .packet) ≡ true = rw read at (b .starts-one) in
       let then = time-then t ∙ ap (λ (v : Receiver). v .time) (picture-begun r (t .packet) new) in
       rw unfinished (other (r .time) (received r area p .receiver .time) (λ e. of-another-time r (t .packet) unfinished new (e ∙ then)))
+
+  -- the tally has 32 places for replies
+  pub reply-has-place : received r area p .answer .reply < 32
+  reply-has-place = by-decision r area p
+      (λ n l d. rw (when-left r area p d .0) (ltb-true n 32 (left-by r area p (λ (m : ℕ). ltb m 32) (λ w. refl) (λ o. refl) refl (λ s. refl) l)))
+      (λ t. omega (arith, reply-small r area p t))

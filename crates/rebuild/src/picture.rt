@@ -38,9 +38,17 @@ fn put(name: &[u8], bytes: &[u8]) -> bool {
     if file < 0 {
         return false;
     }
-    if !io::write_all(file, bytes) {
+    if !write_through(file, bytes) {
         libc::close(file);
         return false;
     }
     libc::close(file) == 0
+}
+
+// Up to the disk: behind a power cut too, a file that has its name has its end.
+fn write_through(file: i32, bytes: &[u8]) -> bool {
+    if !io::write_all(file, bytes) {
+        return false;
+    }
+    libc::fsync(file) == 0
 }
