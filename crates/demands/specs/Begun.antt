@@ -1,7 +1,7 @@
 -- What becomes of the pictures that a run begins: as many are begun as become whole, are given up, or are held unfinished at the end.
 -- Assumes nothing.
 use Prim.Native.Nat.{ℕ, _+_}
-use mathlib.Core.Bool.{Bool, true, false, cond, not, _&&_, _||_}
+use mathlib.Core.Bool.{Bool, true, false, not, _&&_, _||_}
 use mathlib.Core.List.{List, [], _∷_}
 use mathlib.Core.Logic.{inl, inr}
 use mathlib.Core.Path.{_≡_, refl, sym, ap, _∙_}
@@ -12,21 +12,21 @@ use lib.ListN.{getD}
 use Rattle.fragments.specs.Held.{whole}
 use Rattle.laws.specs.Truth.{split, never-both, and-true, and-false, or-none, same, other}
 use Rattle.receiver.specs.Laws.{Taken, by-decision, when-accepted, reply-small, reply-taken, taken-when, held-taken}
-use Rattle.receiver.specs.Picture.{starts, pictureFor, picture-begun, picture-held}
+use Rattle.receiver.specs.Picture.{starts, pictureFor, picture-held}
 use Rattle.receiver.specs.Step.{received, taken}
-use Rattle.receiver.specs.Time.{isNewer, newer-differs}
+use Rattle.receiver.specs.Time.{isNewer}
 use Rattle.receiver.specs.declared.Received.{Received}
 use Rattle.replies.specs.Reply
 use Rattle.state.specs.Receiver.{fresh, headerOf, heldFragments}
 use Rattle.state.specs.WellFormed.{flag, pictureRight, wellFormed, well-formed}
 use Rattle.state.specs.declared.Receiver.{Receiver}
-use Rattle.tally.specs.Counts.{Call, howMany, isAccepted, tallied, each-reply, all-given-up}
+use Rattle.tally.specs.Counts.{Call, howMany, isAccepted, tallied, one-more, each-reply, all-given-up}
 use Rattle.tally.specs.Tally.{counted, isUnfinished, givesUp, none, closed}
 use Rattle.wire.specs.Lawful.{isLawful}
 use Rattle.wire.specs.declared.Packet.{Packet}
 use Rattle.demands.specs.Arrived.{leaves-all}
 use Rattle.demands.specs.Delivery.{LeavesAll}
-use Rattle.demands.specs.GivenUp.{time-then, another-gives-up}
+use Rattle.demands.specs.GivenUp.{time-then, newer-time, another-gives-up}
 use Rattle.demands.specs.History.{State, state, Accepted, step, after, accepted-small, small-accepted}
 use Rattle.demands.specs.Provenance.{StartsPicture}
 
@@ -71,10 +71,6 @@ module _ (c : Call) where
 one-of : (b : Bool) → flag b + flag (not b) ≡ 1
 one-of true = refl
 one-of false = refl
-
-one-more : (b : Bool) (n : ℕ) → cond b (n + 1) n ≡ n + flag b
-one-more true n = refl
-one-more false n = omega arith
 
 -- a well-formed receiver that holds a picture says so with a 1
 flag-held : (r : Receiver) → wellFormed r ≡ true → eqb (r .picture) 0 ≡ false → eqb (r .picture) 1 ≡ true
@@ -136,11 +132,8 @@ module _ (r : Receiver) (area p : List ℕ) where
       starts-picture : StartsPicture step (state r area) p
       starts-picture = record { accepted = told-accepted c accepted-then; said = s; read = t .read; starts-one = new }
 
-      newer-time : isNewer (s .time) (r .time) ≡ true → not (eqb (r .time) (left .time)) ≡ true
-      newer-time newer = other (r .time) (left .time) (λ e. newer-differs (s .time) (r .time) newer (e ∙ time-then r area p t ∙ ap (λ (v : Receiver). v .time) (picture-begun r s new)))
-
       begins-one : begins c ≡ true
-      begins-one = rw accepted-then (split (eqb (r .picture) 0) (λ no. rw no) (λ some. rw (some, newer-time (rw some at new))))
+      begins-one = rw accepted-then (split (eqb (r .picture) 0) (λ no. rw no) (λ some. rw (some, newer-time r area p t new (rw some at new))))
 
       gives-up-unfinished : givesOneUp c ≡ isUnfinished r
       gives-up-unfinished = split (isUnfinished r) (λ u. another-gives-up r area p u starts-picture ∙ sym u) (λ u. rw u)

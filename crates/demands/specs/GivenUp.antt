@@ -19,18 +19,23 @@ use Rattle.wire.specs.declared.Packet.{Packet}
 use Rattle.demands.specs.History.{state, step, accepted-small, small-accepted}
 use Rattle.demands.specs.Provenance.{StartsPicture}
 
--- a packet that starts a picture while one is held is newer, and so of another time stamp
-of-another-time : (r : Receiver) (s : Packet) → isUnfinished r ≡ true → starts r s ≡ true → r .time ≡ s .time → ⊥
-of-another-time r s unfinished new e =
+-- a packet that starts a picture while one is held unfinished is newer
+newer-than-held : (r : Receiver) (s : Packet) → isUnfinished r ≡ true → starts r s ≡ true → isNewer (s .time) (r .time) ≡ true
+newer-than-held r s unfinished new =
     let held = eqb-true (r .picture) 1 (and-true (eqb (r .picture) 1) (not (eqb (r .whole) 1)) unfinished .0) in
-    let newer : isNewer (s .time) (r .time) ≡ true = rw (ne-eqb (r .picture) 0 (λ z. omega arith)) at new in
-    newer-differs (s .time) (r .time) newer e
+    rw (ne-eqb (r .picture) 0 (λ z. omega arith)) at new
 
 module _ (r : Receiver) (area p : List ℕ) where
   -- a packet that is taken leaves the time stamp of the picture that it is for
   pub time-then : (t : Taken r area p) → received r area p .receiver .time ≡ pictureFor r (t .packet) .time
   unfolding taken
   time-then t = ap (λ (d : Received). d .receiver .time) (when-accepted r area p (t .decided) .0)
+
+  -- and so one that starts a newer picture leaves another
+  pub newer-time : (t : Taken r area p) → starts r (t .packet) ≡ true → isNewer (t .packet .time) (r .time) ≡ true → not (eqb (r .time) (received r area p .receiver .time)) ≡ true
+  newer-time t new newer =
+      let then = time-then t ∙ ap (λ (v : Receiver). v .time) (picture-begun r (t .packet) new) in
+      other (r .time) (received r area p .receiver .time) (λ e. newer-differs (t .packet .time) (r .time) newer (e ∙ then))
 
   -- the same time stamp as before is no sign of another picture
   no-other : {P : Type 0} → not (eqb (r .time) (received r area p .receiver .time)) ≡ true → received r area p .receiver .time ≡ r .time → P
@@ -51,8 +56,7 @@ module _ (r : Receiver) (area p : List ℕ) where
       let t = taken-when r area p (accepted-small (received r area p .answer) (b .accepted)) in
       let read : b .said ≡ t .packet = cc (t .read, b .read) in
       let new : starts r (t .packet) ≡ true = rw read at (b .starts-one) in
-      let then = time-then t ∙ ap (λ (v : Receiver). v .time) (picture-begun r (t .packet) new) in
-      rw unfinished (other (r .time) (received r area p .receiver .time) (λ e. of-another-time r (t .packet) unfinished new (e ∙ then)))
+      rw unfinished (newer-time t new (newer-than-held r (t .packet) unfinished new))
 
   -- the tally has 32 places for replies
   pub reply-has-place : received r area p .answer .reply < 32

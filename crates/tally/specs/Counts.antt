@@ -8,6 +8,7 @@ use native.Mathlib.Omega.{arith}
 use lib.Dec.{eqb, eqb·zero-suc, eqb·suc-zero, eqb·suc-suc}
 use lib.ListN.{length, getD, getD-replicate}
 use Rattle.replies.specs.Reply
+use Rattle.state.specs.WellFormed.{flag}
 use Rattle.state.specs.declared.Answer.{Answer}
 use Rattle.state.specs.declared.Receiver.{Receiver}
 use Rattle.tally.specs.Tally.{counted, oneMoreIf, raised, isUnfinished, givesUp, none, added, closed, TellsAccepted}
@@ -39,9 +40,9 @@ more : (so : Bool) (k : ℕ) → oneMoreIf so (counted k) ≡ counted (cond so (
 more true k = omega arith
 more false k = refl
 
-more-with : (so : Bool) (k : ℕ) → oneMoreIf so (counted k) ≡ counted (k + cond so 1 0)
-more-with true k = omega arith
-more-with false k = omega arith
+pub one-more : (so : Bool) (k : ℕ) → cond so (k + 1) k ≡ k + flag so
+one-more true k = refl
+one-more false k = omega arith
 
 either-one : (so : Bool) (k n : ℕ) → cond so (k + 1) k + n ≡ k + cond so (n + 1) n
 either-one true k n = omega arith
@@ -108,6 +109,6 @@ module _ (calls : List Call) where
   all-accepted n told = told ∙ rw (each-reply Reply.held (omega arith), each-reply Reply.whole (omega arith), howMany-accepted calls) (omega arith)
 
   -- How many pictures were given up, with the one that is held unfinished at the end.
-  pub all-given-up : (last : Receiver) → closed (tallied none calls) last .«given_up» ≡ counted (howMany (λ (c : Call). givesUp (c .before) (c .after)) calls + cond (isUnfinished last) 1 0)
+  pub all-given-up : (last : Receiver) → closed (tallied none calls) last .«given_up» ≡ counted (howMany (λ (c : Call). givesUp (c .before) (c .after)) calls + flag (isUnfinished last))
   unfolding closed
-  all-given-up last = rw each-given-up (more-with (isUnfinished last) _)
+  all-given-up last = rw each-given-up (more (isUnfinished last) _ ∙ ap counted (one-more (isUnfinished last) _))
