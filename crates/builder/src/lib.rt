@@ -39,7 +39,7 @@ pub fn build(receiver: Receiver, area: &[u8], out: &mut [u8]) -> Written
 fn judge(receiver: Receiver, area: &[u8]) -> Judged
     ensures { λ r. ⌜ r ≡ judged (checks receiver (now (area .entry))) ⌝ }
 {
-    let Inspected::Holds(_) = state::inspect(receiver) else {
+    let Inspected::Holds(_, _) = state::inspect(receiver) else {
         return Judged::Refused(NOT_WELL_FORMED);
     };
     if area.len() != receiver.room as usize {

@@ -3,7 +3,7 @@ use Prim.Native.Nat.{ℕ}
 use mathlib.Core.List.{List}
 use mathlib.Core.Path.{_≡_, sym, ap, _∙_}
 use Rattle.builder.specs.Building.{Builds}
-use Rattle.fragments.specs.Array.{Surveys, Places, PutsIn, HasNone, TellsClear}
+use Rattle.fragments.specs.Array.{Surveys, Places, PutsIn, HasNone}
 use Rattle.fragments.specs.declared.Fragment.{Fragment}
 use Rattle.head.specs.Head.{TellsHeadLength, PutsHead}
 use Rattle.head.specs.declared.Frame.{Frame}
@@ -100,7 +100,7 @@ are-same a b = only
 pub packet : (p : Picture) (size : ℕ) (s : Stamp) (k : ℕ) (before : List ℕ) → DeterminesBoth (Sends p size s k before)
 packet p size s k before = written
 
--- `fragments::none`, `fragments::survey`, `fragments::place`, `fragments::insert` and `fragments::are_clear`
+-- `fragments::none`, `fragments::survey`, `fragments::place` and `fragments::insert`
 pub no-fragments : Determines HasNone
 no-fragments = only
 
@@ -112,9 +112,6 @@ place a count f = only
 
 pub insert : (a : List Fragment) (count at : ℕ) (f : Fragment) → Determines (PutsIn a count at f)
 insert a count at f = only
-
-pub are-clear : (a : List Fragment) (count : ℕ) → Determines (TellsClear a count)
-are-clear a count = only
 
 -- the store: `kept::none`, `kept::has`, `kept::find`, `kept::keep`, `kept::well_kept` and `kept::is_blank`
 pub none : Determines IsNone

@@ -1,33 +1,37 @@
 -- The fragments held in an array of 64 places: the first `count` of them. Assumes nothing.
 use Prim.Native.Nat.{ℕ, zero, suc, _-_, _≤_, _<_}
-use mathlib.Core.Bool.{Bool, true, cond, _&&_}
+use mathlib.Core.Bool.{Bool, true, false, cond, _&&_}
 use mathlib.Core.List.{List, [], _∷_, _++_}
 use mathlib.Core.Path.{_≡_, refl, sym, ap, _∙_}
 use native.Mathlib.Omega.{arith}
 use borrow.Author.Tests.{lt-ltb}
 use lib.Dec.{ltb, leb, eqb}
 use lib.ListN.{length, take, drop, replicate, length-append, length-drop, length-replicate, take-append-drop}
-use lib.Seq.{length-take-le, drop-cons, take-append-seam, drop-append-seam}
+use lib.Seq.{length-take-le, take-all, drop-cons, take-append-seam, drop-append-seam}
 use Rattle.laws.specs.All.{all}
 use Rattle.laws.specs.Insert.{insertAt, length-insert-at}
-use Rattle.laws.specs.Truth.{and-true}
+use Rattle.laws.specs.Truth.{and-true, split, never-both}
 use Rattle.fragments.specs.Fragments.{stop, fragmentAt, nothing}
 use Rattle.fragments.specs.Held.{total, fromZero}
-use Rattle.fragments.specs.Insertion.{place, inFront}
-use Rattle.fragments.specs.Order.{areOrdered, last}
-use Rattle.fragments.specs.Shared.{share, alike, alike-same, alike-self}
+use Rattle.fragments.specs.Insertion.{place, place-behind, inFront}
+use Rattle.fragments.specs.Order.{InOrder, areOrdered, last, reach, within-reach}
+use Rattle.fragments.specs.Shared.{share, unshared-behind, alike, alike-same, alike-self, alike-shares}
 use Rattle.fragments.specs.declared.Fragment.{Fragment}
 use Rattle.fragments.specs.declared.Placed.{Placed}
 use Rattle.fragments.specs.declared.Surveyed.{Surveyed}
 
+-- A place that is not used.
+abbrev pub isNothing : Fragment → Bool
+isNothing f = alike f nothing
+
 -- What a pass over fragments tells of them: whether they are in order, whether the first begins with byte 0, where the last ends and
--- its marker, and how many bytes they have.
-abbrev pub surveyed : List Fragment → Surveyed
-surveyed fs = record { ordered = areOrdered fs; «from_0» = fromZero fs; stop = stop (last fs); marker = last fs .marker; bytes = total fs }
+-- its marker, and how many bytes they have; and whether the places behind them are unused.
+abbrev pub surveyed : List Fragment → List Fragment → Surveyed
+surveyed fs behind = record { ordered = areOrdered fs; «from_0» = fromZero fs; stop = stop (last fs); marker = last fs .marker; bytes = total fs; clear = all isNothing behind }
 
 -- The outcome of `survey`.
 abbrev pub Surveys : List Fragment → ℕ → Surveyed → Type 0
-Surveys a count s = s ≡ surveyed (take count a)
+Surveys a count s = s ≡ surveyed (take count a) (drop count a)
 
 -- Where a fragment goes, and what it has to do with the one in front of that place.
 abbrev pub placed : Fragment → List Fragment → Placed
@@ -45,10 +49,6 @@ putIn n i f a = insertAt i f (take n a) ++ drop (suc n) a
 abbrev pub PutsIn : List Fragment → ℕ → ℕ → Fragment → List Fragment → Type 0
 PutsIn a n i f b = b ≡ cond (ltb n 64 && leb i n) (putIn n i f a) a
 
--- A place that is not used.
-abbrev pub isNothing : Fragment → Bool
-isNothing f = alike f nothing
-
 -- The outcome of `none`.
 unfoldable pub noFragments : List Fragment
 noFragments = replicate 64 nothing
@@ -60,10 +60,6 @@ HasNone a = a ≡ noFragments
 unfoldable pub padded : List Fragment → List Fragment
 padded fs = fs ++ replicate (64 - length fs) nothing
 
--- The outcome of `are_clear`.
-abbrev pub TellsClear : List Fragment → ℕ → Bool → Type 0
-TellsClear a count b = b ≡ all isNothing (drop count a)
-
 -- ---- laws
 
 -- of the first n of an array: n is not 0, and the array's first place begins with byte 0
@@ -71,6 +67,16 @@ pub first-from-zero : (a : List Fragment) (n : ℕ) → n ≤ length a → fromZ
 first-from-zero a zero h = refl
 first-from-zero [] (suc n) h = absurd (omega arith)
 first-from-zero (f ∷ a) (suc n) h = rw (lt-ltb 0 (suc n) (omega arith))
+
+-- a fragment that begins where the last of those in order ends, or later, goes behind them, and is none of them
+pub placed-behind : (f : Fragment) (fs : List Fragment) → InOrder 0 fs → reach fs ≤ f .offset → 1 ≤ f .length → placed f fs ≡ record { at = length fs; shares = false; same = false }
+placed-behind f fs o b n = rw (place-behind f fs (within-reach (f .offset) fs o b) n, take-all (length fs) fs (omega arith), apart, unlike)
+  where
+    apart : share f (last fs) ≡ false
+    apart = unshared-behind f (last fs) b
+
+    unlike : alike f (last fs) ≡ false
+    unlike = split (alike f (last fs)) (λ e. absurd (never-both (alike-shares f (last fs) n e) apart)) (λ e. e)
 
 -- one more put in: the first n + 1 hold it at its place, and what is behind is as it was
 module _ (a : List Fragment) (n i : ℕ) (f : Fragment) (room : n < length a) where

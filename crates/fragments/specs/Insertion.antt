@@ -15,7 +15,7 @@ use Rattle.laws.specs.Insert.{insertAt, length-insert-at, any-insert-at, each-i
 use Rattle.laws.specs.Truth.{split, never-both, or-false}
 use Rattle.fragments.specs.Fragments.{stop, fragmentAt, nothing}
 use Rattle.fragments.specs.Held.{total, endOf}
-use Rattle.fragments.specs.Order.{InOrder, in-order-from, last}
+use Rattle.fragments.specs.Order.{EndBy, InOrder, in-order-from, last}
 use Rattle.fragments.specs.Shared.{share, alike, unshared, unshared-behind, byte-shared, held-at, in-front, shared, share-swap, alike-same, alike-shares}
 use Rattle.fragments.specs.declared.Fragment.{Fragment}
 
@@ -56,6 +56,11 @@ module _ (f : Fragment) where
   pub place-within : (fs : List Fragment) → place f fs ≤ length fs
   place-within [] = omega arith
   place-within (g ∷ gs) = split (ltb (g .offset) (stop f)) (λ e. rw e (omega (arith, place-within gs))) (λ e. rw e (omega arith))
+
+  -- one that begins where they all have ended goes behind them all
+  pub place-behind : (fs : List Fragment) → EndBy (f .offset) fs → 1 ≤ f .length → place f fs ≡ length fs
+  place-behind [] e n = refl
+  place-behind (g ∷ gs) e n = rw (lt-ltb (g .offset) (stop f) (omega (arith, e .0))) (ap suc (place-behind gs (e .1) n))
 
   pub length-insert : (fs : List Fragment) → length (insert f fs) ≡ suc (length fs)
   length-insert fs = length-insert-at (place f fs) f fs

@@ -40,6 +40,10 @@ frontUnmarked (f ∷ g ∷ gs) = eqb (f .marker) 0 && frontUnmarked (g ∷ gs)
 abbrev pub last : List Fragment → Fragment
 last fs = lastOf nothing fs
 
+-- where the last ends
+abbrev pub reach : List Fragment → ℕ
+reach fs = stop (last fs)
+
 -- Fragments of 1 byte or more, rising and apart, and no marker but on the last.
 unfoldable pub areOrdered : List Fragment → Bool
 areOrdered fs = all hasBytes fs && pairwise rises fs && pairwise isApart fs && frontUnmarked fs
@@ -192,9 +196,15 @@ module _ (room : ℕ) where
   ends-by-last g [] o s = (s, tt)
   ends-by-last g (f ∷ fs) o s = let t = ends-by-last f fs (o .2) s in (omega (arith, t .0, o), t)
 
+  pub within-reach : (fs : List Fragment) → InOrder 0 fs → reach fs ≤ room → EndBy room fs
+  within-reach fs o s = ends-by-last nothing fs o s .1
+
   last-ends : (g : Fragment) (fs : List Fragment) → EndBy room (g ∷ fs) → stop (lastOf g fs) ≤ room
   last-ends g [] e = e .0
   last-ends g (f ∷ fs) e = last-ends f fs (e .1)
+
+  pub reach-within : (fs : List Fragment) → EndBy room fs → reach fs ≤ room
+  reach-within fs e = last-ends nothing fs (omega arith, e)
 
   pub in-line : (fs : List Fragment) → inLine room fs ≡ inPlace room fs
   unfolding inLine inPlace
@@ -202,5 +212,5 @@ module _ (room : ℕ) where
     where
       by-last : areOrdered fs ≡ true → leb (stop (last fs)) room ≡ all (endsBy room) fs
       by-last e = same-test (leb (stop (last fs)) room) (all (endsBy room) fs)
-          (λ t. all-end room fs (ends-by-last nothing fs (ordered fs e .0) (leb-true (stop (last fs)) room t) .1))
-          (λ t. le-leb (stop (last fs)) room (last-ends nothing fs (omega arith, each-ends room fs t)))
+          (λ t. all-end room fs (within-reach fs (ordered fs e .0) (leb-true (stop (last fs)) room t)))
+          (λ t. le-leb (stop (last fs)) room (reach-within fs (each-ends room fs t)))

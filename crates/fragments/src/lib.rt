@@ -8,7 +8,7 @@ ghost use mathlib.Core.Path.{_≡_};
 ghost use lib.Bits.{bitOr};
 ghost use lib.Dec.{ltb, eqb};
 ghost use lib.ListN.{length};
-ghost use Rattle.fragments.specs.Array.{Surveys, Places, PutsIn, HasNone, TellsClear};
+ghost use Rattle.fragments.specs.Array.{Surveys, Places, PutsIn, HasNone};
 ghost use Rattle.fragments.specs.Fragments as Fragments;
 use pair::alike;
 use pair::follows;
@@ -24,13 +24,14 @@ pub struct Fragment {
 }
 
 // Of the fragments held: whether they are in order, whether the first begins with byte 0 of the scan, where the last ends and its
-// marker, and how many bytes they have.
+// marker, and how many bytes they have; and whether the places behind them are unused.
 pub struct Surveyed {
     pub ordered: bool,
     pub from_0: bool,
     pub stop: u64,
     pub marker: u32,
     pub bytes: u64,
+    pub clear: bool,
 }
 
 // Where a fragment goes: behind the first `at` of those held; and whether it shares a byte with the one in front of that place, or is
@@ -41,10 +42,11 @@ pub struct Placed {
     pub same: bool,
 }
 
-// What one pass over the first `count` tells. It counts those that do not follow the one before and has no early way out, so that
-// the compiler can vectorise it. Whether the first begins with byte 0 is told here too: a caller that reads `fragments[0]` itself makes
-// the compiler take the array apart and copy it once more. The second clause hands on what the array's type says, which the prover
-// does not know of a struct's field.
+// What one pass over the array tells: a loop over the first `count`, and one over the places behind them. The first counts those that
+// do not follow the one before; the second joins the bits of all numbers, of which none may be set. Neither has an early way out, so
+// that the compiler can vectorise it. Both are here, and so is whether the first begins with byte 0: each function that is handed the
+// array, and each caller that reads `fragments[0]` itself, makes the compiler copy it once more. The second clause hands on what the
+// array's type says, which the prover does not know of a struct's field.
 pub fn survey(fragments: [Fragment; 64], count: u32) -> Surveyed
     ensures { λ r. ⌜ Surveys fragments count r ⌝ }
     ensures { λ _. ⌜ length fragments ≡ 64 ⌝ }
@@ -61,12 +63,18 @@ pub fn survey(fragments: [Fragment; 64], count: u32) -> Surveyed
         bytes += f.length as u64;
         last = f;
     }
+    let mut set: u32 = 0;
+    for i in n..64 {
+        let f = fragments[i];
+        set = set | bits(f);
+    }
     Surveyed {
         ordered: wrong == 0,
         from_0: is_from_0(fragments[0], n),
         stop: stop(last),
         marker: last.marker,
         bytes,
+        clear: set == 0,
     }
 }
 
@@ -118,19 +126,6 @@ pub fn none() -> [Fragment; 64]
 {
     let unused = nothing();
     [unused; 64]
-}
-
-// Whether the places behind the first `count` are unused: no bit is set in any of their numbers.
-pub fn are_clear(fragments: [Fragment; 64], count: u32) -> bool
-    ensures { λ r. ⌜ TellsClear fragments count r ⌝ }
-{
-    let n = used(count);
-    let mut set: u32 = 0;
-    for i in n..64 {
-        let f = fragments[i];
-        set = set | bits(f);
-    }
-    set == 0
 }
 
 pub(crate) fn nothing() -> Fragment

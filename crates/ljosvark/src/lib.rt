@@ -5,6 +5,7 @@ ghost use Rattle.sender.specs.Picture.{picture};
 ghost use Rattle.sender.specs.Sending.{Sends};
 ghost use Rattle.state.specs.Opening.{Opens};
 ghost use Rattle.tables.specs.MakeTables.{MakesTables};
+use replies::AGAIN;
 use replies::Written;
 use sender::Stamp;
 use state::Answer;
@@ -72,7 +73,7 @@ pub extern "C" fn lj_open(source: u32, room: u32) -> Opened
     state::open(source, room)
 }
 
-// The step in place: the host's own receiver becomes the next one.
+// The step in place: the host's own receiver becomes the next one. Again and the refusals leave it as it is: nothing to store.
 #[no_mangle]
 pub extern "C" fn lj_receive(receiver: &mut Receiver, area: &mut [u8], packet: &[u8]) -> Answer
     ensures { λ answer.
@@ -86,7 +87,9 @@ pub extern "C" fn lj_receive(receiver: &mut Receiver, area: &mut [u8], packet: &
         ⌝ }
 {
     let done = receiver::receive(*receiver, area, packet);
-    *receiver = done.receiver;
+    if done.answer.reply < AGAIN {
+        *receiver = done.receiver;
+    }
     done.answer
 }
 

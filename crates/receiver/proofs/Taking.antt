@@ -1,9 +1,10 @@
 -- What an accepted packet makes of the picture that it is for, in the parts in which the code makes it. Assumes nothing.
 use Prim.Native.Nat.{ℕ, _+_, _≤_, _<_}
-use mathlib.Core.Bool.{true, cond}
+use mathlib.Core.Bool.{true, false, cond}
 use mathlib.Core.List.{List}
 use mathlib.Core.Path.{_≡_, sym, ap, _∙_}
 use native.Mathlib.Omega.{arith}
+use borrow.Author.Tests.{eq-eqb, ne-eqb}
 use lib.Dec.{eqb}
 use lib.ListN.{length, take, drop}
 use Rattle.fragments.specs.Array.{isNothing, noFragments, padded, held-padded}
@@ -11,6 +12,7 @@ use Rattle.fragments.specs.Clash.{isMarked, end-insert}
 use Rattle.fragments.specs.Fragments.{stop}
 use Rattle.fragments.specs.Held.{total, endOf, whole, total-within}
 use Rattle.fragments.specs.Insertion.{place, insert, place-within, length-insert, total-insert}
+use Rattle.kept.specs.Kept.{blank}
 use Rattle.laws.specs.All.{all}
 use Rattle.laws.specs.Insert.{insertAt}
 use Rattle.laws.specs.Put.{put}
@@ -21,11 +23,27 @@ use Rattle.state.specs.declared.Receiver.{Receiver}
 use Rattle.wire.specs.Readable.{scan-long}
 use Rattle.wire.specs.Reading.{scanIn}
 use Rattle.wire.specs.declared.Packet.{Packet}
+use Rattle.receiver.specs.FirstPacket.{given, tablesAfter}
 use Rattle.receiver.specs.Known.{Known}
-use Rattle.receiver.specs.Picture.{starts, pictureFor, picture-room, picture-array, picture-in-place, picture-end, picture-unused}
+use Rattle.receiver.specs.Picture.{starts, pictureFor, picture-room, picture-array, picture-tables, picture-kept, picture-in-place, picture-end, picture-unused}
 use Rattle.receiver.specs.Step.{taken, answering}
 use Rattle.receiver.specs.Verdict.{Accepted, fragmentOf}
 use Rattle.receiver.proofs.Placing.{picture-length}
+
+-- the picture's tables with the packet: those that a first one gives; else none where it begins the picture, and else the receiver's
+module _ (r : Receiver) (p : List ℕ) (s : Packet) where
+  pub tables-first : s .offset ≡ 0 → given (r .kept) p s ≡ tablesAfter (pictureFor r s .tables) (pictureFor r s .kept) p s
+  unfolding tablesAfter
+  tables-first e = rw (picture-kept r s, eq-eqb (s .offset) 0 e)
+
+  module _ (later : s .offset ≡ 0 → ⊥) where
+    pub tables-begun : starts r s ≡ true → blank ≡ tablesAfter (pictureFor r s .tables) (pictureFor r s .kept) p s
+    unfolding tablesAfter
+    tables-begun new = rw (picture-tables r s, new, ne-eqb (s .offset) 0 later)
+
+    pub tables-stay : starts r s ≡ false → r .tables ≡ tablesAfter (pictureFor r s .tables) (pictureFor r s .kept) p s
+    unfolding tablesAfter
+    tables-stay old = rw (picture-tables r s, old, ne-eqb (s .offset) 0 later)
 
 module _ {r : Receiver} {p : List ℕ} {s : Packet} (known : Known r p s) (accepted : Accepted (pictureFor r s) s) where
   pub ends-inside : stop (fragmentOf s) ≤ 65536

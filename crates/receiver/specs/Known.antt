@@ -6,6 +6,7 @@ use mathlib.Core.Path.{_≡_}
 use lib.ListN.{length}
 use Rattle.fragments.specs.Held.{total}
 use Rattle.fragments.specs.Insertion.{place}
+use Rattle.fragments.specs.Order.{reach}
 use Rattle.replies.specs.declared.Judged.the-variants.{Passed, Refused}
 use Rattle.replies.specs.declared.Judged.{Judged}
 use Rattle.state.specs.Receiver.{heldFragments, headerOf}
@@ -42,6 +43,7 @@ numbers begun r = record {
   whole = r .whole;
   count = r .«fragment_count»;
   held = total (heldFragments r);
+  reach = reach (heldFragments r);
 }
 
 -- A verdict with the place at which an accepted packet's fragment goes.

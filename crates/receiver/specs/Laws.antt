@@ -32,9 +32,10 @@ use Rattle.wire.specs.declared.Reading.{Reading}
 use Rattle.receiver.specs.FirstPacket.{isBare, kept-after-well, tables-after-right}
 use Rattle.receiver.specs.Picture.{starts, pictureFor, picture-begun, picture-held, picture-source, picture-room, picture-well-formed}
 use Rattle.receiver.specs.Step.Decision.{leave, accept}
-use Rattle.receiver.specs.Step.{decision, ruled, judgedRead, taken, held, answering, tookIn, received, areaAfter}
+use Rattle.receiver.specs.Step.{Receives, decision, ruled, judgedRead, taken, held, answering, tookIn, received, areaAfter}
 use Rattle.receiver.specs.Time.{isNewer, not-behind, behind-else}
 use Rattle.receiver.specs.Verdict.{fragmentOf, isBeyond, checks, verdict, Accepted, accepted, like-itself}
+use Rattle.receiver.specs.declared.Received.{Received}
 
 -- Why a call leaves all as it is, and with which reply: 9, 8, the reader's, or the verdict on what was read.
 pub data Left (r : Receiver) (area p : List ℕ) (n : ℕ) : Type 0 where
@@ -134,6 +135,10 @@ module _ (r : Receiver) (area p : List ℕ) where
   pub taken-when : received r area p .answer .reply < 2 → Taken r area p
   unfolding received
   taken-when h = by-decision (λ n l d. absurd (omega (arith, left-number l, rw d at h))) (λ t. t)
+
+  -- with any other reply the receiver that came is given back
+  pub receiver-stays : {d : Received} {after : List ℕ} → Receives r area p d after → 2 ≤ d .answer .reply → d .receiver ≡ r
+  receiver-stays s large = by-decision (λ n l d. rw (s .answer ∙ when-left d .0)) (λ t. absurd (omega (arith, rw (s .answer) at large, reply-small t)))
 
   -- a packet that is taken has the time stamp of the picture that it is for
   pub time-taken : (t : Taken r area p) → r .time < 2 ^ 32 → t .packet .time < 2 ^ 32 → t .packet .time ≡ pictureFor r (t .packet) .time

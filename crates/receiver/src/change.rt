@@ -15,8 +15,8 @@ ghost use Rattle.receiver.specs.Known.{Known, numbers};
 ghost use Rattle.receiver.specs.Picture.{starts, pictureFor};
 ghost use Rattle.receiver.specs.Step as Step;
 ghost use Rattle.receiver.specs.Verdict.{Accepted, fragmentOf};
+use crate::first_packet::given;
 use crate::first_packet::kept_after;
-use crate::first_packet::tables_after;
 use crate::judge::fragment_of;
 use crate::picture::Numbers;
 use fragments::Fragment;
@@ -45,7 +45,7 @@ pub(crate) fn taken(
     let fragments = receiver.fragments;
     let tables = receiver.tables;
     let kept = receiver.kept;
-    Receiver {
+    let mut next = Receiver {
         source: receiver.source,
         room: receiver.room,
         picture: 1,
@@ -59,9 +59,20 @@ pub(crate) fn taken(
         whole: state::whole_flag(end, held as u64),
         fragment_count: count,
         fragments: fragments_with(fragments, picture.begun, picture.count, at, f),
-        tables: tables_after(tables, picture.begun, kept, packet, said),
-        kept: kept_after(kept, packet, said),
+        tables,
+        kept,
+    };
+    // Tables and store are set only where they change: either is 128 bytes or more to copy.
+    if said.offset == 0 {
+        let given_tables = given(kept, packet, said);
+        next.tables = given_tables;
+    } else if picture.begun {
+        next.tables = [0; 128];
     }
+    if said.tables.length != 0 {
+        next.kept = kept_after(kept, packet, said);
+    }
+    next
 }
 
 // The end with one more fragment: its own, if it has the marker, and else what it was.

@@ -1,7 +1,7 @@
 // What a first packet, the one at offset 0, means for its picture's tables and for those kept.
 ghost use mathlib.Core.Bool.{cond};
 ghost use mathlib.Core.Path.{_≡_};
-ghost use Rattle.kept.specs.Kept.{blank, find};
+ghost use Rattle.kept.specs.Kept.{find};
 ghost use Rattle.laws.specs.Within.{Between};
 ghost use Rattle.tables.specs.Quantiser.{tablesOf};
 ghost use Rattle.wire.specs.Reading.{tablesIn};
@@ -25,24 +25,8 @@ pub(crate) fn is_bare(kept: Kept, said: Packet) -> bool
     }
 }
 
-// The picture's tables with an accepted packet, from those that it had; one that the packet begins had none.
-pub(crate) fn tables_after(
-    tables: [u8; 128],
-    begun: bool,
-    kept: Kept,
-    packet: &[u8],
-    said: Packet,
-) -> [u8; 128]
-    ensures { λ r. ⌜ r ≡ First.tablesAfter (cond begun blank tables) kept (now (packet .entry)) said ⌝ }
-{
-    if said.offset == 0 {
-        return given(kept, packet, said);
-    }
-    if begun { [0; 128] } else { tables }
-}
-
 // The tables that a first packet gives its picture.
-fn given(kept: Kept, packet: &[u8], said: Packet) -> [u8; 128]
+pub(crate) fn given(kept: Kept, packet: &[u8], said: Packet) -> [u8; 128]
     ensures { λ r. ⌜ r ≡ First.given kept (now (packet .entry)) said ⌝ }
 {
     match wire::table_source(said.header.q) {

@@ -1,9 +1,13 @@
 // The verdict on a packet that has been read, from its time stamp to its tables. It decides everything: nothing is changed before it.
-ghost use Prim.Native.Nat.{_<_, _^_};
+ghost use Prim.Native.Nat.{_≤_, _<_, _^_};
 ghost use mathlib.Core.Bool.{_&&_, _||_};
 ghost use mathlib.Core.Path.{_≡_};
 ghost use lib.Dec.{ltb, eqb};
+ghost use lib.ListN.{length, take};
+ghost use Rattle.fragments.specs.Array.{Places};
 ghost use Rattle.fragments.specs.Clash.{nearClashes};
+ghost use Rattle.fragments.specs.Order as Order;
+ghost use Rattle.fragments.specs.Order.{InOrder};
 ghost use Rattle.replies.specs.Checks.{judged};
 ghost use Rattle.receiver.specs.Known.{Known, numbers, placedBy};
 ghost use Rattle.receiver.specs.Picture.{starts, pictureFor};
@@ -81,7 +85,7 @@ fn is_unlike(held: Header, header: Header) -> bool
     held.interval != header.interval
 }
 
-// The checks against the fragments held: one pass over them tells the place, and what stands in front of it.
+// The checks against the fragments held, by where the packet's goes and what stands in front of it.
 fn judge_place(
     receiver: Receiver,
     picture: Numbers,
@@ -95,7 +99,7 @@ fn judge_place(
 {
     let f = fragment_of(said);
     let fragments = receiver.fragments;
-    let placed = fragments::place(fragments, picture.count, f);
+    let placed = place_of(fragments, picture.count, picture.reach, f);
     let tables = receiver.tables;
     if is_again(placed.same, tables, area, packet, said) {
         return Verdict::Left(AGAIN);
@@ -111,6 +115,23 @@ fn judge_place(
         return Verdict::Left(BARE);
     }
     Verdict::Accepted(placed.at)
+}
+
+// Where a fragment goes among the first `count`. One that begins where the last of them ends, or later, goes behind them: then the array
+// is neither looked at nor copied, and so it is with packets that come in order.
+fn place_of(fragments: [Fragment; 64], count: u32, reach: u32, f: Fragment) -> Placed
+    requires { ⌜ InOrder 0 (take count fragments) × (length (take count fragments) ≡ count) ⌝ }
+    requires { ⌜ (reach ≡ Order.reach (take count fragments)) × (1 ≤ f .length) ⌝ }
+    ensures { λ r. ⌜ Places fragments count f r ⌝ }
+{
+    if reach <= f.offset {
+        return Placed {
+            at: count as usize,
+            shares: false,
+            same: false,
+        };
+    }
+    fragments::place(fragments, count, f)
 }
 
 // The part of the scan that a packet carries.

@@ -44,7 +44,7 @@ pub struct Received {
 pub fn receive(receiver: Receiver, area: &mut [u8], packet: &[u8]) -> Received
     ensures { λ d. ⌜ Step.Receives receiver (now (area .entry)) (now (packet .entry)) d (now (area .exit)) ⌝ }
 {
-    let Inspected::Holds(held) = state::inspect(receiver) else {
+    let Inspected::Holds(held, reach) = state::inspect(receiver) else {
         return unchanged(NOT_WELL_FORMED, 0, receiver);
     };
     if area.len() != receiver.room as usize {
@@ -54,7 +54,7 @@ pub fn receive(receiver: Receiver, area: &mut [u8], packet: &[u8]) -> Received
     let Reading::Said(said) = reading else {
         return unchanged(refusal(reading), held, receiver);
     };
-    let picture = picture_for(receiver, held, said);
+    let picture = picture_for(receiver, held, reach, said);
     match judge(receiver, picture, area, packet, said) {
         Verdict::Left(number) => unchanged(number, held, receiver),
         Verdict::Accepted(at) => accept(receiver, picture, area, packet, said, at),

@@ -3,6 +3,7 @@ ghost use mathlib.Core.Bool.{_||_};
 ghost use mathlib.Core.Path.{_≡_};
 ghost use lib.Dec.{eqb};
 ghost use Rattle.fragments.specs.Held.{total};
+ghost use Rattle.fragments.specs.Order as Order;
 ghost use Rattle.state.specs.Receiver.{heldFragments};
 ghost use Rattle.receiver.specs.Known.{numbers};
 ghost use Rattle.receiver.specs.Picture as Spec;
@@ -22,10 +23,11 @@ pub(crate) struct Numbers {
     pub(crate) whole: u32,
     pub(crate) count: u32,
     pub(crate) held: u32,
+    pub(crate) reach: u32,
 }
 
-pub(crate) fn picture_for(receiver: Receiver, held: u32, said: Packet) -> Numbers
-    requires { ⌜ held ≡ total (heldFragments receiver) ⌝ }
+pub(crate) fn picture_for(receiver: Receiver, held: u32, reach: u32, said: Packet) -> Numbers
+    requires { ⌜ (held ≡ total (heldFragments receiver)) × (reach ≡ Order.reach (heldFragments receiver)) ⌝ }
     ensures { λ r. ⌜ r ≡ numbers (Spec.starts receiver said) (Spec.pictureFor receiver said) ⌝ }
 {
     if starts(receiver.picture, receiver.time, said.time) {
@@ -38,6 +40,7 @@ pub(crate) fn picture_for(receiver: Receiver, held: u32, said: Packet) -> Number
             whole: 0,
             count: 0,
             held: 0,
+            reach: 0,
         };
     }
     Numbers {
@@ -54,6 +57,7 @@ pub(crate) fn picture_for(receiver: Receiver, held: u32, said: Packet) -> Number
         whole: receiver.whole,
         count: receiver.fragment_count,
         held,
+        reach,
     }
 }
 

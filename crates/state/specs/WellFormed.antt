@@ -8,7 +8,7 @@ use borrow.Author.Tests.{leb-true, le-leb, eqb-true, eq-eqb}
 use lib.Dec.{eqb, leb}
 use Rattle.fragments.specs.Array.{isNothing}
 use Rattle.fragments.specs.Held as Held
-use Rattle.fragments.specs.Order.{inPlace, InPlace, in-place, is-in-place}
+use Rattle.fragments.specs.Order.{inPlace, InPlace, in-place, is-in-place, reach, reach-within}
 use Rattle.fragments.specs.Shared.{holds}
 use Rattle.fragments.specs.declared.Fragment.{Fragment}
 use Rattle.laws.specs.All.{all}
@@ -87,9 +87,9 @@ wellFormed r =
     && wellKept (r .kept)
     && wholeRight (r .whole) (heldFragments r)
 
--- What a look at a receiver tells: how many scan bytes it holds, if it is well formed.
+-- What a look at a receiver tells, if it is well formed: how many scan bytes it holds, and where the last of them ends.
 unfoldable pub inspected : Receiver → Inspected
-inspected r = cond (wellFormed r) (Holds (Held.total (heldFragments r))) NotWellFormed
+inspected r = cond (wellFormed r) (Holds (Held.total (heldFragments r)) (reach (heldFragments r))) NotWellFormed
 
 -- The outcome of `inspect`.
 abbrev pub Inspects : Receiver → Inspected → Type 0
@@ -166,9 +166,12 @@ held-within-room {r} w =
     let p = w .in-place in
     omega (arith, Held.total-within 0 (r .room) (heldFragments r) (p .order) (p .inside) (omega arith))
 
+pub reach-within-room : {r : Receiver} → WellFormed r → reach (heldFragments r) ≤ r .room
+reach-within-room {r} w = reach-within (r .room) (heldFragments r) (w .in-place .inside)
+
 -- a look at a receiver, by whether it is well formed
 module _ (r : Receiver) where
-  pub inspected-holds : wellFormed r ≡ true → inspected r ≡ Holds (Held.total (heldFragments r))
+  pub inspected-holds : wellFormed r ≡ true → inspected r ≡ Holds (Held.total (heldFragments r)) (reach (heldFragments r))
   unfolding inspected
   inspected-holds e = rw e
 
@@ -176,9 +179,9 @@ module _ (r : Receiver) where
   unfolding inspected
   inspected-not e = rw e
 
-  pub holds-inspected : {n : ℕ} → inspected r ≡ Holds n → (wellFormed r ≡ true) × (n ≡ Held.total (heldFragments r))
-  holds-inspected {n} i = split (wellFormed r)
-      (λ e. let h = inspected-holds e in (e, cc))
+  pub holds-inspected : {n m : ℕ} → inspected r ≡ Holds n m → (wellFormed r ≡ true) × (n ≡ Held.total (heldFragments r)) × (m ≡ reach (heldFragments r))
+  holds-inspected {n} {m} i = split (wellFormed r)
+      (λ e. let h = inspected-holds e in (e, cc, cc))
       (λ e. let h = inspected-not e in let z : _≡_ {A = ℕ} 0 1 = cc in absurd (omega arith))
 
   pub not-inspected : inspected r ≡ NotWellFormed → wellFormed r ≡ false

@@ -1,16 +1,16 @@
 // The rules of a well-formed receiver. Reply 9 asks for them in every call: each loop, here and below, goes over all that it judges,
 // with no early way out.
 ghost use mathlib.Core.Bool.{cond, _&&_};
+ghost use mathlib.Core.List.{List};
 ghost use mathlib.Core.Path.{_≡_};
 ghost use lib.Dec.{leb, eqb};
-ghost use lib.ListN.{take, drop};
-ghost use Rattle.fragments.specs.Array.{Surveys};
+ghost use Rattle.fragments.specs.Array.{surveyed};
+ghost use Rattle.fragments.specs.declared.Fragment.{Fragment};
 ghost use Rattle.laws.specs.Same.{same};
 ghost use Rattle.laws.specs.Within.{Between};
 ghost use Rattle.tables.specs.Quantiser.{tablesOf};
 ghost use Rattle.state.specs.WellFormed as Rule;
 use crate::whole_flag;
-use fragments::Fragment;
 use fragments::Surveyed;
 use wire::Header;
 use wire::TableSource;
@@ -34,21 +34,14 @@ fn is_unset(time: u32, count: u32, header: Header) -> bool
     time as u64 + count as u64 + fields == 0
 }
 
-pub(crate) fn fragments_right(
-    fragments: [Fragment; 64],
-    survey: Surveyed,
-    count: u32,
-    room: u32,
-    end: u32,
-    whole: u32,
-) -> bool
-    requires { ⌜ Surveys fragments count survey ⌝ }
-    ensures { λ r. ⌜ r ≡ Rule.fragmentsRight (take count fragments) (drop count fragments) room end whole ⌝ }
+// Whether the fragments that a survey is of, and the places behind them, keep their rules.
+pub(crate) fn fragments_right(survey: Surveyed, room: u32, end: u32, whole: u32) -> bool
+    ensures { λ r. ⌜ ((fs behind : List Fragment) → survey ≡ surveyed fs behind → r ≡ Rule.fragmentsRight fs behind room end whole) ⌝ }
 {
     if !are_in_place(survey, room) {
         return false;
     }
-    if !fragments::are_clear(fragments, count) {
+    if !survey.clear {
         return false;
     }
     if end as u64 != end_given(survey) {

@@ -48,10 +48,10 @@ pub struct Opened {
     pub receiver: Receiver,
 }
 
-// What a look at a receiver tells: that it does not keep its rules, or how many scan bytes it holds.
+// What a look at a receiver tells: that it does not keep its rules, or how many scan bytes it holds, and where the last of them ends.
 pub enum Inspected {
     NotWellFormed,
-    Holds(u32),
+    Holds(u32, u32),
 }
 
 // A receiver of a source, with `room` bytes for its scan.
@@ -121,7 +121,8 @@ pub fn inspect(receiver: Receiver) -> Inspected
         return Inspected::NotWellFormed;
     }
     let held = survey.bytes as u32;
-    Inspected::Holds(held)
+    let reach = survey.stop as u32;
+    Inspected::Holds(held, reach)
 }
 
 // The rules, with the survey of the fragments held.
@@ -146,15 +147,7 @@ fn well_formed(receiver: Receiver, survey: Surveyed) -> bool
     if !check::picture_right(receiver.picture, receiver.time, count, header) {
         return false;
     }
-    let fragments = receiver.fragments;
-    if !check::fragments_right(
-        fragments,
-        survey,
-        count,
-        receiver.room,
-        receiver.end,
-        receiver.whole,
-    ) {
+    if !check::fragments_right(survey, receiver.room, receiver.end, receiver.whole) {
         return false;
     }
     let tables = receiver.tables;

@@ -69,7 +69,7 @@ fn formed(line: &[u8]) -> bool {
     }
     let receiver = given.receiver;
     match state::inspect(receiver) {
-        Inspected::Holds(_) => write_number(1),
+        Inspected::Holds(_, _) => write_number(1),
         Inspected::NotWellFormed => write_number(0),
     }
     true

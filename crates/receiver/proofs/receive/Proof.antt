@@ -7,6 +7,7 @@ use borrow.Author.Needs.{needs}
 use denote.Ref.{now}
 use Rattle.fragments.specs.Held.{total}
 use Rattle.fragments.specs.Insertion.{place}
+use Rattle.fragments.specs.Order.{reach}
 use Rattle.replies.specs.declared.Judged.the-variants.{Passed, Refused}
 use Rattle.replies.specs.declared.Judged.{Judged}
 use Rattle.state.specs.Receiver.{heldFragments}
@@ -24,7 +25,8 @@ use Rattle.receiver.proofs.Stepping.{not-formed, leaves, accepts}
 use Rattle.receiver.proofs.receive.Statement.{statement}
 use Rattle.receiver.proofs.receive.Tie as tie
 
-holds : (c : tie.After-held) → let r = c .before .before .before .before .before .args .receiver in (wellFormed r ≡ true) × (c .held .given .0 .0 ≡ total (heldFragments r))
+holds : (c : tie.After-held) → let r = c .before .before .before .before .before .args .receiver in
+    (wellFormed r ≡ true) × (c .held .given .0 .0 ≡ total (heldFragments r)) × (c .held .given .0 .1 .0 ≡ reach (heldFragments r))
 holds c = holds-inspected (c .before .before .before .before .before .args .receiver) (sym (c .before .before .inspect .ensures .0) ∙ c .held .given .1)
 
 abbrev held-of : tie.After-reading → tie.After-held
@@ -117,7 +119,7 @@ returns-3 c =
     leaves (a .receiver) (now (a .area)) (now (a .packet)) (w .0) decided (w .1) (c .unchanged3 .ensures ∙ rw (c .before .refusal .ensures, t .enum-told2 .given .1))
 
 picture-for-requires : tie.Need-picture-for-requires
-picture-for-requires c κs = holds (held-of (c .before)) .1
+picture-for-requires c κs = let w = holds (held-of (c .before)) in (w .1, w .2)
 
 judge-requires : tie.Need-judge-requires
 judge-requires c κs = (knows (c .before .before .before), c .before .picture-for .ensures)

@@ -7,7 +7,7 @@ use lib.Dec.{leb}
 use Rattle.fragments.specs.Held.{start-held}
 use Rattle.fragments.specs.Order.{in-place}
 use Rattle.fragments.specs.declared.Surveyed.{Surveyed}
-use Rattle.state.specs.Receiver.{heldFragments}
+use Rattle.state.specs.Receiver.{heldFragments, unused}
 use Rattle.state.specs.WellFormed.{isRoom, tablesGiven}
 use Rattle.state.specs.declared.Receiver.{Receiver}
 use Rattle.state.proofs.Grouped.{pictureOf, fragmentsOf, tablesOf, grouped, are-in-place, regrouped}
@@ -26,13 +26,19 @@ receiver c = c .before .before .before .before .before .args .receiver
 pictured : (c : tie.Else3) → pictureOf (receiver c) ≡ true
 pictured c = sym (c .before .picture-right .ensures) ∙ not-false _ (c .if3 .left)
 
-filed : (c : tie.Else4) → fragmentsOf (c .before .before .before .before .before .before .before .before .args .receiver) ≡ true
-filed c = sym (c .before .fragments-right .ensures) ∙ not-false _ (c .if4 .left)
+judged : (c : tie.After-fragments-right) → c .fragments-right .result ≡ fragmentsOf (receiver (c .before))
+judged c =
+    let start = c .before .before .before .before .before .before in
+    let r = start .args .receiver in
+    c .fragments-right .ensures (heldFragments r) (unused r) (start .pre)
 
-tabled : (c : tie.After-tables-right) → c .tables-right .result ≡ tablesOf (c .before .before .before .before .before .before .before .before .before .before .args .receiver)
+filed : (c : tie.Else4) → fragmentsOf (receiver (c .before .before)) ≡ true
+filed c = sym (judged (c .before)) ∙ not-false _ (c .if4 .left)
+
+tabled : (c : tie.After-tables-right) → c .tables-right .result ≡ tablesOf (receiver (c .before .before .before .before))
 tabled c =
     let f = c .before .before in
-    let start = f .before .before .before .before .before .before .before .before in
+    let start = f .before .before .before .before .before .before .before in
     let r = start .args .receiver in
     let order = in-place (r .room) (heldFragments r) (are-in-place r (filed f)) .order in
     c .tables-right .ensures
@@ -67,8 +73,8 @@ fragments-right-requires c κs = search needs
 returns-4 : tie.Need-returns-4
 unfolding grouped
 returns-4 c =
-    let p = c .before .before .before in
-    rw (room (p .before .before .before), counted (p .before .before), pictured p, sym (c .before .fragments-right .ensures) ∙ not-true _ (c .if4 .taken)) at (regrouped (receiver p))
+    let p = c .before .before in
+    rw (room (p .before .before .before), counted (p .before .before), pictured p, sym (judged (c .before)) ∙ not-true _ (c .if4 .taken)) at (regrouped (receiver p))
 
 tables-right-requires : tie.Need-tables-right-requires
 tables-right-requires c κs = search needs
@@ -77,7 +83,7 @@ returns-5 : tie.Need-returns-5
 unfolding grouped
 returns-5 c =
     let f = c .before .before .before in
-    let p = f .before .before .before in
+    let p = f .before .before in
     rw (room (p .before .before .before), counted (p .before .before), pictured p, filed f, sym (tabled (c .before)) ∙ not-true _ (c .if5 .taken)) at (regrouped (receiver p))
 
 well-kept-requires : tie.Need-well-kept-requires
@@ -88,7 +94,7 @@ unfolding grouped
 returns-6 c =
     let t = c .before .before in
     let f = t .before .before .before in
-    let p = f .before .before .before in
+    let p = f .before .before in
     c .well-kept .ensures ∙ rw (room (p .before .before .before), counted (p .before .before), pictured p, filed f, sym (tabled (t .before)) ∙ not-false _ (t .if5 .left)) at (regrouped (receiver p))
 
 pub well-formed-spec : {M : Type 1} → statement M

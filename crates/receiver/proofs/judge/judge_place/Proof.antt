@@ -10,19 +10,19 @@ use Rattle.fragments.specs.Array.{placed}
 use Rattle.fragments.specs.Clash.{clashes}
 use Rattle.replies.specs.Checks.{PastFirst, start, passes, fails, none-left}
 use Rattle.state.specs.Receiver.{heldFragments}
-use Rattle.wire.specs.Readable.{scan-short}
-use Rattle.receiver.specs.Picture.{pictureFor, picture-kept}
+use Rattle.wire.specs.Readable.{scan-short, scan-some}
+use Rattle.receiver.specs.Picture.{pictureFor, picture-kept, picture-in-place}
 use Rattle.receiver.specs.Verdict.{fragmentOf, isAgain, placeChecks}
 use Rattle.receiver.specs.declared.picture.Numbers.{Numbers}
-use Rattle.receiver.proofs.Placing.{again-by, picture-length, at-place, same-held, clash-told}
+use Rattle.receiver.proofs.Placing.{again-by, picture-fragments, picture-length, at-place, same-held, clash-told}
 use Rattle.receiver.proofs.judge.judge_place.Statement.{statement}
 use Rattle.receiver.proofs.judge.judge_place.Tie as tie
 
-abbrev counted : (c : tie.After-place) → let a = c .before .before .before .before .before .args in a .picture .count ≡ pictureFor (a .receiver) (a .said) .«fragment_count»
+abbrev counted : (c : tie.After-place-of) → let a = c .before .before .before .before .before .args in a .picture .count ≡ pictureFor (a .receiver) (a .said) .«fragment_count»
 counted c = ap (λ (x : Numbers). x .count) (c .before .before .before .before .before .pre .1)
 
-told : (c : tie.After-place) → let a = c .before .before .before .before .before .args in c .place .result ≡ placed (fragmentOf (a .said)) (take (pictureFor (a .receiver) (a .said) .«fragment_count») (a .receiver .fragments))
-told c = c .place .ensures ∙ rw (counted c, c .before .before .fragment-of .ensures)
+told : (c : tie.After-place-of) → let a = c .before .before .before .before .before .args in c .place-of .result ≡ placed (fragmentOf (a .said)) (take (pictureFor (a .receiver) (a .said) .«fragment_count») (a .receiver .fragments))
+told c = c .place-of .ensures ∙ rw (counted c, c .before .before .fragment-of .ensures)
 
 again : (c : tie.After-is-again) → let a = c .before .before .before .before .before .before .before .args in c .is-again .result ≡ isAgain (pictureFor (a .receiver) (a .said)) (now (a .area)) (now (a .packet)) (a .said)
 again c =
@@ -58,8 +58,17 @@ past-full c = passes (past-clash (c .before .before)) (lt-leb 64 _ (few c))
 fragment-of-requires : tie.Need-fragment-of-requires
 fragment-of-requires c κs = let short = scan-short (c .before .before .args .receiver .source) (now (c .before .before .args .packet)) (c .before .before .args .said) (c .before .before .pre .0 .read) in omega arith
 
-place-requires : tie.Need-place-requires
-place-requires c κs = search needs
+place-of-requires : tie.Need-place-of-requires
+place-of-requires c κs =
+    let f = c .before in
+    let start = f .before .before .before in
+    let a = start .args in
+    let known = start .pre .0 in
+    let count : a .picture .count ≡ pictureFor (a .receiver) (a .said) .«fragment_count» = ap (λ (x : Numbers). x .count) (start .pre .1) in
+    let held : take (a .picture .count) (a .receiver .fragments) ≡ heldFragments (pictureFor (a .receiver) (a .said)) = rw count (picture-fragments (a .receiver) (a .said)) in (
+      (rw held (picture-in-place (a .receiver) (a .said) (known .well-formed) .order), rw held (picture-length known ∙ sym count)),
+      (rw held (ap (λ (x : Numbers). x .reach) (start .pre .1)), rw (f .fragment-of .ensures) (scan-some (a .receiver .source) (now (a .packet)) (a .said) (known .read))),
+    )
 
 is-again-requires : tie.Need-is-again-requires
 is-again-requires c κs = search needs
@@ -103,7 +112,7 @@ judge-place-spec =
     tie.close
     (tie.spec
     fragment-of-requires
-    place-requires
+    place-of-requires
     is-again-requires
     returns
     clashes-requires

@@ -18,7 +18,7 @@ returns-2 : tie.Need-returns-2
 returns-2 c =
     let a = c .before .before .args in
     let e = sym (c .before .starts .ensures) ∙ c .if1 .left in
-    rw (picture-held (a .receiver) (a .said) e, e, ← c .before .before .pre)
+    rw (picture-held (a .receiver) (a .said) e, e, ← c .before .before .pre .0, ← c .before .before .pre .1)
 
 pub picture-for-spec : {M : Type 1} → statement M
 picture-for-spec = tie.close (tie.spec starts-requires returns returns-2)

@@ -1,80 +1,67 @@
 -- `state::check::fragments_right` meets its contract: rule by rule. Assumes nothing.
 use Prim.Native.Nat.{ℕ}
-use mathlib.Core.Bool.{true, cond, _&&_}
-use mathlib.Core.Path.{_≡_, sym, ap, _∙_}
+use mathlib.Core.Bool.{Bool, true, cond, _&&_}
+use mathlib.Core.List.{List}
+use mathlib.Core.Path.{_≡_, sym, _∙_}
 use borrow.Author.Needs.{needs}
-use borrow.Author.Tests.{not-true, not-false, eq-eqb, ne-eqb}
+use borrow.Author.Tests.{not-true, not-false, eq-eqb, ne-eqb, eqb-true}
 use lib.Dec.{leb, eqb}
-use lib.ListN.{take, drop}
-use Rattle.fragments.specs.Array.{isNothing}
-use Rattle.fragments.specs.Held.{endOf, end-last, reached, total}
+use Rattle.fragments.specs.Array.{isNothing, surveyed}
+use Rattle.fragments.specs.Held.{endOf, end-last, reached}
 use Rattle.fragments.specs.Order.{inPlace, in-place, inLine, in-line}
+use Rattle.fragments.specs.declared.Fragment.{Fragment}
 use Rattle.fragments.specs.declared.Surveyed.{Surveyed}
 use Rattle.laws.specs.All.{all}
+use Rattle.laws.specs.Truth.{split, and-false}
 use Rattle.state.specs.WellFormed.{flag, fragmentsRight}
 use Rattle.state.proofs.check.fragments_right.Statement.{statement}
 use Rattle.state.proofs.check.fragments_right.Tie as tie
 
-judged : (c : tie.After-are-in-place) → c .are-in-place .result ≡ inPlace (c .before .args .room) (take (c .before .args .count) (c .before .args .fragments))
-unfolding inLine
-judged c =
-    let a = c .before .args in
-    c .are-in-place .ensures
-    ∙ ap (λ (r : Surveyed). r .ordered && leb (r .stop) (a .room) && leb (r .marker) 1) (c .before .pre)
-    ∙ in-line (a .room) (take (a .count) (a .fragments))
+-- the rules, by the fields of a survey
+abbrev inLineOf : Surveyed → ℕ → Bool
+inLineOf s room = s .ordered && leb (s .stop) room && leb (s .marker) 1
 
-placed : (c : tie.Else1) → inPlace (c .before .before .args .room) (take (c .before .before .args .count) (c .before .before .args .fragments)) ≡ true
-placed c = sym (judged (c .before)) ∙ not-false _ (c .if1 .left)
+told : {s : Surveyed} (room end whole : ℕ) (fs behind : List Fragment) → s ≡ surveyed fs behind → (inLineOf s room && s .clear && eqb end (cond (eqb (s .marker) 1) (s .stop) 0) && eqb whole (flag (reached end (s .bytes)))) ≡ fragmentsRight fs behind room end whole
+unfolding inLine fragmentsRight
+told room end whole fs behind e = rw (e, in-line room fs) (split (inPlace room fs)
+    (λ p. rw (p, ← end-last fs (in-place room fs p .marked)) (split (eqb end (endOf fs)) (λ q. rw (eqb-true end (endOf fs) q)) (λ q. rw (q, and-false (all isNothing behind)))))
+    (λ p. rw p))
 
-clear : (c : tie.Else2) → all isNothing (drop (c .before .before .before .before .args .count) (c .before .before .before .before .args .fragments)) ≡ true
-clear c = sym (c .before .are-clear .ensures) ∙ not-false _ (c .if2 .left)
-
-ended : (c : tie.After-end-given) → c .end-given .result ≡ endOf (take (c .before .before .before .before .before .args .count) (c .before .before .before .before .before .args .fragments))
-ended c =
-    let s = c .before .before .before .before .before in
-    let a = s .args in
-    let fs = take (a .count) (a .fragments) in
-    c .end-given .ensures
-    ∙ ap (λ (r : Surveyed). cond (eqb (r .marker) 1) (r .stop) 0) (s .pre)
-    ∙ sym (end-last fs (in-place (a .room) fs (placed (c .before .before .before)) .marked))
+lined : (c : tie.Else1) → inLineOf (c .before .before .args .survey) (c .before .before .args .room) ≡ true
+lined c = sym (c .before .are-in-place .ensures) ∙ not-false _ (c .if1 .left)
 
 are-in-place-requires : tie.Need-are-in-place-requires
 are-in-place-requires c κs = search needs
 
 returns : tie.Need-returns
-unfolding fragmentsRight
-returns c = rw (sym (judged (c .before)) ∙ not-true _ (c .if1 .taken))
-
-are-clear-requires : tie.Need-are-clear-requires
-are-clear-requires c κs = search needs
+returns c fs behind e = let a = c .before .before .args in rw (sym (c .before .are-in-place .ensures) ∙ not-true _ (c .if1 .taken)) at (told (a .room) (a .end) (a .whole) fs behind e)
 
 returns-2 : tie.Need-returns-2
-unfolding fragmentsRight
-returns-2 c = rw (placed (c .before .before), sym (c .before .are-clear .ensures) ∙ not-true _ (c .if2 .taken))
+returns-2 c fs behind e =
+    let p = c .before .before in
+    let a = p .before .before .args in
+    rw (lined p, not-true (a .survey .clear) (c .if2 .taken)) at (told (a .room) (a .end) (a .whole) fs behind e)
 
 end-given-requires : tie.Need-end-given-requires
 end-given-requires c κs = search needs
 
 returns-3 : tie.Need-returns-3
-unfolding fragmentsRight
-returns-3 c =
-    let b = c .before in
-    rw (placed (b .before .before .before), clear (b .before), ne-eqb (b .before .before .before .before .before .args .end) _ (λ e. c .if3 .taken (e ∙ sym (ended b))))
+returns-3 c fs behind e =
+    let u = c .before .before in
+    let p = u .before .before in
+    let a = p .before .before .args in
+    rw (lined p, not-false (a .survey .clear) (u .if2 .left), ne-eqb (a .end) _ (λ z. c .if3 .taken (z ∙ sym (c .before .end-given .ensures)))) at (told (a .room) (a .end) (a .whole) fs behind e)
 
 whole-flag-requires : tie.Need-whole-flag-requires
 whole-flag-requires c κs = search needs
 
 returns-4 : tie.Need-returns-4
-unfolding fragmentsRight
-returns-4 c =
-    let b = c .before .before in
-    let s = b .before .before .before .before .before in
-    let a = s .args in
-    let fs = take (a .count) (a .fragments) in
-    let e : a .end ≡ endOf fs = c .before .if3 .left ∙ ended b in
-    let w : c .whole-flag .result ≡ flag (reached (endOf fs) (total fs)) =
-    c .whole-flag .ensures ∙ ap (λ (n : ℕ). flag (reached n (a .survey .bytes))) e ∙ ap (λ (r : Surveyed). flag (reached (endOf fs) (r .bytes))) (s .pre) in
-    rw (placed (b .before .before .before), clear (b .before), eq-eqb (a .end) (endOf fs) e, ← w)
+returns-4 c fs behind e =
+    let g = c .before .before in
+    let u = g .before in
+    let p = u .before .before in
+    let a = p .before .before .args in
+    rw (lined p, not-false (a .survey .clear) (u .if2 .left), eq-eqb (a .end) _ (c .before .if3 .left ∙ g .end-given .ensures), ← c .whole-flag .ensures) at (told (a .room) (a .end) (a .whole) fs behind e)
 
 pub fragments-right-spec : {M : Type 1} → statement M
 fragments-right-spec =
@@ -82,7 +69,6 @@ fragments-right-spec =
     (tie.spec
     are-in-place-requires
     returns
-    are-clear-requires
     returns-2
     end-given-requires
     returns-3
