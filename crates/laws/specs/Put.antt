@@ -10,7 +10,6 @@ use borrow.Author.Tests.{ltb-true, ltb-false, leb-true, leb-false}
 use lib.Dec.{ltb, leb}
 use lib.ListN.{length, getD, take, drop, set, length-append, length-take, length-drop, take-append-drop, List·getD-append}
 use lib.Seq.{set-split, take-append-seam, drop-append-add, drop-drop, length-take-le, getD-append-add, getD-take, getD-drop}
-use Rattle.laws.specs.Lists.{fill-more}
 use Rattle.laws.specs.Truth.{split}
 
 abbrev pub put : List ℕ → ℕ → List ℕ → List ℕ
@@ -79,16 +78,3 @@ puts-more {before} {between} {after} {a} {b} {at} {next} p q h e = record { same
 
 pub puts-on : {before between after a b : List ℕ} {at next behind : ℕ} → PutsUpTo before at a between next → PutsUpTo between next b after behind → at ≤ length before → PutsUpTo before at (a ++ b) after behind
 puts-on {before} {between} {after} {a} {b} p q h = record { puts = puts-more (p .puts) (q .puts) h (p .next); next = simp length-append (omega (arith, p .next, q .next)) }
-
--- one byte more of a list, in the turn of a loop
-more : (l : List ℕ) (at : ℕ) (bytes : List ℕ) (i : ℕ) → i < length bytes → at + i < length l → set (put l at (take i bytes)) (at + i) (getD bytes i 0) ≡ put l at (take (i + 1) bytes)
-more l zero bytes i h g =
-    rw (put-front l (take i bytes), put-front l (take (i + 1) bytes), zero-add i, length-take-le i bytes (omega arith), length-take-le (i + 1) bytes (omega arith))
-    (fill-more bytes l i h (omega arith))
-more [] (suc at) bytes i h g = absurd (omega arith)
-more (x ∷ l) (suc at) bytes i h g =
-    rw (put-cons x l at (take i bytes), put-cons x l at (take (i + 1) bytes), suc-add at i)
-    (ap (λ (m : List ℕ). x ∷ m) (more l at bytes i h (omega arith)))
-
-pub puts-next : {before between : List ℕ} {at : ℕ} (bytes : List ℕ) (i : ℕ) → Puts before at (take i bytes) between → i < length bytes → at + i < length before → Puts before at (take (i + 1) bytes) (set between (at + i) (getD bytes i 0))
-puts-next {before} {between} {at} bytes i p h g = record { same = rw (p .same) (more before at bytes i h g) }

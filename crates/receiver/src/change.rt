@@ -15,8 +15,9 @@ ghost use Rattle.receiver.specs.Known.{Known, numbers};
 ghost use Rattle.receiver.specs.Picture.{starts, pictureFor};
 ghost use Rattle.receiver.specs.Step as Step;
 ghost use Rattle.receiver.specs.Verdict.{Accepted, fragmentOf};
+use crate::first_packet::are_made;
 use crate::first_packet::given;
-use crate::first_packet::kept_after;
+use crate::first_packet::keeps;
 use crate::judge::fragment_of;
 use crate::picture::Numbers;
 use fragments::Fragment;
@@ -62,15 +63,17 @@ pub(crate) fn taken(
         tables,
         kept,
     };
-    // Tables and store are set only where they change: either is 128 bytes or more to copy.
+    // Tables and store are set only where they change: either is 128 bytes or more to copy, and tables take longer to make.
     if said.offset == 0 {
-        let given_tables = given(kept, packet, said);
-        next.tables = given_tables;
+        if !are_made(receiver.q, tables, said.header.q) {
+            let given_tables = given(kept, packet, said);
+            next.tables = given_tables;
+        }
     } else if picture.begun {
         next.tables = [0; 128];
     }
-    if said.tables.length != 0 {
-        next.kept = kept_after(kept, packet, said);
+    if keeps(said) {
+        next.kept = kept::keep(kept, said.header.q, wire::tables(packet, said));
     }
     next
 }

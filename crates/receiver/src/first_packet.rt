@@ -1,10 +1,13 @@
 // What a first packet, the one at offset 0, means for its picture's tables and for those kept.
-ghost use mathlib.Core.Bool.{cond};
+ghost use mathlib.Core.Bool.{cond, not, _&&_};
 ghost use mathlib.Core.Path.{_≡_};
-ghost use Rattle.kept.specs.Kept.{find};
+ghost use lib.Dec.{eqb};
+ghost use lib.ListN.{getD};
+ghost use Rattle.kept.specs.Kept.{find, isKeepable};
 ghost use Rattle.laws.specs.Within.{Between};
 ghost use Rattle.tables.specs.Quantiser.{tablesOf};
 ghost use Rattle.wire.specs.Reading.{tablesIn};
+ghost use Rattle.wire.specs.TableSource.{isMade, tableSource};
 ghost use Rattle.receiver.specs.FirstPacket as First;
 use kept::Kept;
 use wire::Packet;
@@ -56,12 +59,27 @@ fn brought_or_kept(kept: Kept, packet: &[u8], said: Packet) -> [u8; 128]
     }
 }
 
-// The store with an accepted packet.
-pub(crate) fn kept_after(kept: Kept, packet: &[u8], said: Packet) -> Kept
-    ensures { λ r. ⌜ r ≡ First.keptAfter kept (now (packet .entry)) said ⌝ }
+// Whether the tables held for a Q are those that a Q makes: it is the same Q, and they are known, so that none of them is 0.
+pub(crate) fn are_made(held: u32, tables: [u8; 128], q: u32) -> bool
+    ensures { λ r. ⌜ r ≡ (isMade (tableSource q) && eqb held q && not (eqb (getD tables 0 0) 0)) ⌝ }
 {
-    if said.tables.length == 0 {
-        return kept;
+    match wire::table_source(q) {
+        TableSource::Made => held == q && tables[0] != 0,
+        TableSource::KeptOrBrought => false,
+        TableSource::AlwaysBrought => false,
+        TableSource::Reserved => false,
     }
-    kept::keep(kept, said.header.q, wire::tables(packet, said))
+}
+
+// Whether a packet brings tables that are kept.
+pub(crate) fn keeps(said: Packet) -> bool
+    ensures { λ r. ⌜ r ≡ (isKeepable (said .header .q) && First.brings said) ⌝ }
+{
+    let q = said.header.q;
+    match wire::table_source(q) {
+        TableSource::Made => false,
+        TableSource::KeptOrBrought => said.tables.length != 0,
+        TableSource::AlwaysBrought => false,
+        TableSource::Reserved => false,
+    }
 }

@@ -4,7 +4,7 @@ use mathlib.Core.Logic.{⊎-elim}
 use mathlib.Core.Path.{_≡_, sym, ap, _∙_}
 use native.Mathlib.Omega.{arith}
 use borrow.Author.Needs.{needs}
-use borrow.Author.Tests.{eq-eqb}
+use borrow.Author.Tests.{not-false}
 use denote.Ref.{now}
 use lib.ListN.{length}
 use Rattle.fragments.specs.Array.{padded}
@@ -15,12 +15,12 @@ use Rattle.kept.specs.Kept.{blank}
 use Rattle.state.specs.Receiver.{heldFragments}
 use Rattle.state.specs.WellFormed.{flag}
 use Rattle.wire.specs.Readable.{scan-short}
-use Rattle.receiver.specs.FirstPacket.{tablesAfter, keptAfter}
-use Rattle.receiver.specs.Picture.{starts, pictureFor, picture-source, picture-room, picture-kept}
+use Rattle.receiver.specs.FirstPacket.{tablesAfter}
+use Rattle.receiver.specs.Picture.{starts, pictureFor, picture-kept}
 use Rattle.receiver.specs.Step.{holding, taken}
 use Rattle.receiver.specs.Verdict.{fragmentOf}
 use Rattle.receiver.specs.declared.picture.Numbers.{Numbers}
-use Rattle.receiver.proofs.Taking.{ends-inside, few-held, one-more, place-among, clear-behind, put-among, end-after, total-after, tables-first, tables-begun, tables-stay}
+use Rattle.receiver.proofs.Taking.{ends-inside, few-held, one-more, place-among, clear-behind, put-among, end-after, total-after, tables-first, tables-made, tables-begun, tables-stay, store-kept, store-stays, put-together}
 use Rattle.receiver.proofs.change.taken.Statement.{statement}
 use Rattle.receiver.proofs.change.taken.Tie as tie
 
@@ -49,11 +49,20 @@ fragments-with-requires c κs =
     let accepted = start .pre .0 .1 in
     rw (ap (λ (x : Numbers). x .begun) same, ap (λ (x : Numbers). x .count) same, start .pre .1 .1 .0) ((few-held known accepted, place-among known accepted), clear-behind known accepted)
 
+are-made-requires : tie.Need-are-made-requires
+are-made-requires c κs = search needs
+
 given-requires : tie.Need-given-requires
 given-requires c κs = search needs
 
-kept-after-requires : tie.Need-kept-after-requires
-kept-after-requires c κs = search needs
+keeps-requires : tie.Need-keeps-requires
+keeps-requires c κs = search needs
+
+tables-requires : tie.Need-tables-requires
+tables-requires c κs = search needs
+
+keep-requires : tie.Need-keep-requires
+keep-requires c κs = search needs
 
 abbrev start-of : tie.Joined1 → tie.Start
 start-of c = c .before .before .before .before .before .before .before .before .before .before .before
@@ -70,41 +79,39 @@ with-tables c =
     let a = start .args in
     let known = start .pre .0 .0 in
     let accepted = start .pre .0 .1 in
-    let v = pictureFor (a .receiver) (a .said) in
-    let fs = insert (fragmentOf (a .said)) (heldFragments v) in
+    let fs = insert (fragmentOf (a .said)) (heldFragments (pictureFor (a .receiver) (a .said))) in
     let same = start .pre .1 .0 in
-    let source : a .receiver .source ≡ v .source = sym (picture-source (a .receiver) (a .said)) in
-    let room : a .receiver .room ≡ v .room = sym (picture-room (a .receiver) (a .said)) in
     let begun : a .picture .begun ≡ starts (a .receiver) (a .said) = ap (λ (x : Numbers). x .begun) same in
-    let time : a .picture .time ≡ v .time = ap (λ (x : Numbers). x .time) same in
-    let kind : a .picture .header .kind ≡ v .kind = ap (λ (x : Numbers). x .header .kind) same in
-    let q : a .picture .header .q ≡ v .q = ap (λ (x : Numbers). x .header .q) same in
-    let width : a .picture .header .width ≡ v .width = ap (λ (x : Numbers). x .header .width) same in
-    let height : a .picture .header .height ≡ v .height = ap (λ (x : Numbers). x .header .height) same in
-    let interval : a .picture .header .interval ≡ v .interval = ap (λ (x : Numbers). x .header .interval) same in
     let end : e .end-with .result ≡ endOf fs = e .end-with .ensures ∙ rw (f .fragment-of .ensures, ap (λ (x : Numbers). x .end) same) (end-after known accepted) in
     let sum : a .held ≡ total fs = start .pre .1 .1 .1 ∙ total-after known accepted in
-    let whole : w .whole-flag .result ≡ flag (whole fs) = w .whole-flag .ensures ∙ rw (end, sum) in
+    let told : w .whole-flag .result ≡ flag (whole fs) = w .whole-flag .ensures ∙ rw (end, sum) in
     let count : a .picture .count + 1 ≡ length fs = rw (ap (λ (x : Numbers). x .count) same) (one-more known accepted) in
     let fragments : g .fragments-with .result ≡ padded fs =
     g .fragments-with .ensures
     ∙ rw (begun, ap (λ (x : Numbers). x .count) same, start .pre .1 .1 .0, f .fragment-of .ensures) (put-among known accepted) in
+    let next = put-together (a .receiver) (now (a .packet)) (a .said) same end told count fragments in
     ⊎-elim
-    (λ way. cc (way .1 .ensures, tables-first (a .receiver) (now (a .packet)) (a .said) (way .0 .taken)))
+    (λ way. way .4 ∙ next _ (way .3 .ensures ∙ tables-first (a .receiver) (now (a .packet)) (a .said) (way .0 .taken)))
     (⊎-elim
-    (λ way. cc (tables-begun (a .receiver) (now (a .packet)) (a .said) (way .0 .left) (sym begun ∙ way .1 .taken)))
-    (λ way. cc (tables-stay (a .receiver) (now (a .packet)) (a .said) (way .0 .left) (sym begun ∙ way .1 .left))))
+    (λ way. way .3 ∙ next _ (tables-made known (way .0 .taken) (sym (way .1 .ensures) ∙ not-false (way .1 .result) (way .2 .left))))
+    (⊎-elim
+    (λ way. cc (next _ (tables-begun (a .receiver) (now (a .packet)) (a .said) (way .0 .left) (sym begun ∙ way .1 .taken))))
+    (λ way. way .2 ∙ next _ (tables-stay (a .receiver) (now (a .packet)) (a .said) (way .0 .left) (sym begun ∙ way .1 .left)))))
     (c .if1 .came)
 
 returns : tie.Need-returns
 unfolding taken
-returns c = let a = start-of (c .before .before .before) .args in rw (with-tables (c .before .before .before), c .kept-after .ensures, picture-kept (a .receiver) (a .said))
+returns c =
+    let k = c .before .before .before in
+    let a = start-of (k .before) .args in
+    rw (with-tables (k .before), picture-kept (a .receiver) (a .said), c .keep .ensures, c .before .tables2 .ensures, ← store-kept (a .receiver .kept) (now (a .packet)) (a .said) (sym (k .keeps .ensures) ∙ c .before .before .if4 .taken))
 
 returns-2 : tie.Need-returns-2
-unfolding taken keptAfter
+unfolding taken
 returns-2 c =
-    let a = start-of (c .before .before) .args in
-    rw (with-tables (c .before .before), picture-kept (a .receiver) (a .said), eq-eqb (a .said .tables .length) 0 (c .if3 .left))
+    let k = c .before in
+    let a = start-of (k .before) .args in
+    rw (with-tables (k .before), picture-kept (a .receiver) (a .said), ← store-stays (a .receiver .kept) (now (a .packet)) (a .said) (sym (k .keeps .ensures) ∙ c .if4 .left))
 
 pub taken-spec : {M : Type 1} → statement M
 taken-spec =
@@ -115,7 +122,10 @@ taken-spec =
     end-with-requires
     whole-flag-requires
     fragments-with-requires
+    are-made-requires
     given-requires
-    kept-after-requires
+    keeps-requires
+    tables-requires
+    keep-requires
     returns
     returns-2)
