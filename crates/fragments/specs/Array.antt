@@ -27,7 +27,7 @@ isNothing f = alike f nothing
 -- What a pass over fragments tells of them: whether they are in order, whether the first begins with byte 0, where the last ends and
 -- its marker, and how many bytes they have; and whether the places behind them are unused.
 abbrev pub surveyed : List Fragment → List Fragment → Surveyed
-surveyed fs behind = record { ordered = areOrdered fs; «from_0» = fromZero fs; stop = stop (last fs); marker = last fs .marker; bytes = total fs; clear = all isNothing behind }
+surveyed fs behind = record { ordered = areOrdered fs; «from_0» = fromZero fs; stop = reach fs; marker = last fs .marker; bytes = total fs; clear = all isNothing behind }
 
 -- The outcome of `survey`.
 abbrev pub Surveys : List Fragment → ℕ → Surveyed → Type 0

@@ -189,7 +189,7 @@ ordered-chain fs = same-test (chained follows nothing fs) (areOrdered fs)
 
 -- So those in order are in place exactly where the last ends inside the room and has a marker of 0 or 1.
 unfoldable pub inLine : ℕ → List Fragment → Bool
-inLine room fs = areOrdered fs && leb (stop (last fs)) room && leb (last fs .marker) 1
+inLine room fs = areOrdered fs && leb (reach fs) room && leb (last fs .marker) 1
 
 module _ (room : ℕ) where
   ends-by-last : (g : Fragment) (fs : List Fragment) → InOrder (stop g) fs → stop (lastOf g fs) ≤ room → EndBy room (g ∷ fs)
@@ -210,7 +210,7 @@ module _ (room : ℕ) where
   unfolding inLine inPlace
   in-line fs = split (areOrdered fs) (λ e. rw (e, by-last e)) (λ e. rw e)
     where
-      by-last : areOrdered fs ≡ true → leb (stop (last fs)) room ≡ all (endsBy room) fs
-      by-last e = same-test (leb (stop (last fs)) room) (all (endsBy room) fs)
-          (λ t. all-end room fs (within-reach fs (ordered fs e .0) (leb-true (stop (last fs)) room t)))
-          (λ t. le-leb (stop (last fs)) room (reach-within fs (each-ends room fs t)))
+      by-last : areOrdered fs ≡ true → leb (reach fs) room ≡ all (endsBy room) fs
+      by-last e = same-test (leb (reach fs) room) (all (endsBy room) fs)
+          (λ t. all-end room fs (within-reach fs (ordered fs e .0) (leb-true (reach fs) room t)))
+          (λ t. le-leb (reach fs) room (reach-within fs (each-ends room fs t)))
