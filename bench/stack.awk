@@ -32,6 +32,7 @@ match($0, /sub\tsp, sp, #0x[0-9a-f]+/) {
 # x86-64: the same, and the address to return to, which stands below the caller's frame
 /\tpush / { frame[now] += 8 }
 match($0, /\$0x[0-9a-f]+,%rsp/) && /\tsub/ { frame[now] += hex(substr($0, RSTART + 3, RLENGTH - 8)) }
+/\tadd +\$0xffffffffffffff80,%rsp/ { frame[now] += 128 } # room of 128 bytes is made by adding -128, which is shorter
 /R_X86_64_PLT32|R_AARCH64_(CALL|JUMP)26/ {
     called = $NF
     sub(/[+-]0x[0-9a-f]+$/, "", called)
