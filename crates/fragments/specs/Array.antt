@@ -10,7 +10,7 @@ use Rattle.std.proofs.Math.Seq.{take-append_seam, drop-append_seam}
 use Rattle.laws.specs.All.{all}
 use Rattle.laws.specs.Insert.{insert_at, length_insert_at}
 use Rattle.laws.specs.Truth.{and_true, split, never_both}
-use Rattle.fragments.specs.Fragments.{stop, fragment_at, nothing}
+use Rattle.fragments.specs.Fragments.{fragment_at, nothing}
 use Rattle.fragments.specs.Held.{total, from_zero}
 use Rattle.fragments.specs.Insertion.{place, place_behind, in_front}
 use Rattle.fragments.specs.Order.{InOrder, are_ordered, last, reach, within_reach}

@@ -1,5 +1,7 @@
 // Fragments of a scan, and up to 64 of them held in offset order: the first of an array of 64 places. A count that says more than 64
 // counts all of them, and no sum wraps, whatever the fields are.
+#![tactic(auto)]
+
 mod pair;
 
 ghost use Rattle.std.specs.Prelude.{min, ◌&&◌, ◌≡◌, ltb, eqb, length};
@@ -12,7 +14,7 @@ use pair::{alike, follows, share};
 // The part of a scan that a packet carries: `length` bytes from `offset` on; and the marker, 1 on the last of its picture and 0 on any
 // other.
 #[repr(C)]
-#[derive(Drop)]
+#[derive(Clone, Copy)]
 pub struct Fragment {
     pub offset: u32,
     pub length: u32,
@@ -21,7 +23,7 @@ pub struct Fragment {
 
 // Of the fragments held: whether they are in order, whether the first begins with byte 0 of the scan, where the last ends and its
 // marker, and how many bytes they have; and whether the places behind them are unused.
-#[derive(Drop)]
+#[derive(Clone, Copy)]
 pub struct Surveyed {
     pub ordered: bool,
     pub from_0: bool,
@@ -33,7 +35,7 @@ pub struct Surveyed {
 
 // Where a fragment goes: behind the first `at` of those held; and whether it shares a byte with the one in front of that place, or is
 // the same. At place 0 there is none in front, and a fragment of zeros stands for it.
-#[derive(Drop)]
+#[derive(Clone, Copy)]
 pub struct Placed {
     pub at: usize,
     pub shares: bool,
@@ -119,6 +121,7 @@ pub fn insert(fragments: [Fragment; 64], count: u32, at: usize, f: Fragment) -> 
 }
 
 // The array with all places unused.
+#[tactic(auto, unfolding(crate::specs::Array::no_fragments))]
 pub fn none() -> [Fragment; 64]
     ensures { HasNone result }
 {

@@ -6,6 +6,7 @@ ghost use Rattle.fragments.specs.Shared as Shared;
 use crate::{Fragment, stop};
 
 // Whether f begins where g ends or later and has a byte, and g has no marker.
+#[tactic(auto, unfolding(crate::specs::Order::follows))]
 pub(crate) fn follows(g: Fragment, f: Fragment) -> bool
     ensures { result ≡ Order.follows g f }
 {
@@ -19,6 +20,7 @@ pub(crate) fn follows(g: Fragment, f: Fragment) -> bool
 }
 
 // Whether they have a byte in common.
+#[tactic(auto, unfolding(crate::specs::Shared::share))]
 pub(crate) fn share(f: Fragment, g: Fragment) -> bool
     ensures { result ≡ Shared.share f g }
 {
@@ -40,6 +42,7 @@ fn smaller(a: u64, b: u64) -> u64
 }
 
 // Whether offset, length and marker are the same.
+#[tactic(auto, unfolding(crate::specs::Shared::alike))]
 pub(crate) fn alike(f: Fragment, g: Fragment) -> bool
     ensures { result ≡ Shared.alike f g }
 {

@@ -1,11 +1,13 @@
 // The store: the last tables received for one Q of 128 to 254. No other library names its fields.
+#![tactic(auto)]
+
 ghost use Rattle.std.specs.Prelude.{◌≡◌};
 ghost use Rattle.kept.specs.Kept as Store;
 
 use wire::TableSource;
 
 #[repr(C)]
-#[derive(Drop)]
+#[derive(Clone, Copy)]
 pub struct Kept {
     pub q: u32,
     pub tables: [u8; 128],

@@ -1,4 +1,6 @@
 // The reply numbers of document 01, what a list of checks comes to, and what the calls that write into a lent output answer.
+#![tactic(auto)]
+
 ghost use Rattle.replies.specs.Output.{IsRefusal, IsSuccess};
 
 // specs/Reply.antt says what each number means, under the same name.

@@ -1,4 +1,6 @@
 // Bytes of a slice: a part handed out, bytes put at a place, and compared.
+#![tactic(auto)]
+
 ghost use Rattle.std.specs.Prelude.{◌≤◌, ◌≡◌, length};
 ghost use Rattle.slices.specs.Slices.{GivesPart, PutsAt, TellsSame};
 

@@ -12,6 +12,7 @@ use crate::whole_flag;
 use fragments::Surveyed;
 use wire::{Header, TableSource};
 
+#[tactic(auto, unfolding(crate::specs::WellFormed::picture_right))]
 pub(crate) fn picture_right(picture: u32, time: u32, count: u32, header: Header) -> bool
     ensures { result ≡ Rule.picture_right picture time count header }
 {
@@ -68,6 +69,7 @@ fn end_given(survey: Surveyed) -> u64
 
 // Whether the tables are what the Q calls for, by whether byte 0 of the scan is held. A reserved Q was refused with the header fields,
 // and is like one whose tables are brought.
+#[tactic(auto, unfolding(crate::specs::WellFormed::tables_given))]
 pub(crate) fn tables_right(from_0: bool, q: u32, tables: [u8; 128]) -> bool
     ensures { result ≡ Rule.tables_given from_0 q tables }
 {

@@ -1,4 +1,6 @@
 // The receiver's state: what it holds, how it is opened, and whether it keeps its own rules.
+#![tactic(auto)]
+
 mod check;
 
 ghost use Rattle.std.specs.Prelude.{◌≡◌, length};
@@ -15,7 +17,7 @@ use wire::Header;
 // Every field is a number, flags too, and there is no padding: every bit pattern that a host can lend is a state. 0 stands for an end
 // that is not known, and for what is not used.
 #[repr(C)]
-#[derive(Drop)]
+#[derive(Clone, Copy)]
 pub struct Receiver {
     pub source: u32,
     pub room: u32,
@@ -36,27 +38,28 @@ pub struct Receiver {
 
 // What a receiver answers: a reply, and how many scan bytes it holds afterwards.
 #[repr(C)]
-#[derive(Drop)]
+#[derive(Clone, Copy)]
 pub struct Answer {
     pub reply: u32,
     pub held: u32,
 }
 
 #[repr(C)]
-#[derive(Drop)]
+#[derive(Clone, Copy)]
 pub struct Opened {
     pub answer: Answer,
     pub receiver: Receiver,
 }
 
 // What a look at a receiver tells: that it does not keep its rules, or how many scan bytes it holds, and where the last of them ends.
-#[derive(Drop)]
+#[derive(Clone, Copy)]
 pub enum Inspected {
     NotWellFormed,
     Holds(u32, u32),
 }
 
 // A receiver of a source, with `room` bytes for its scan.
+#[tactic(auto, unfolding(crate::specs::Opening::opening))]
 pub fn open(source: u32, room: u32) -> Opened
     ensures { Opens source room result }
 {
@@ -78,6 +81,7 @@ pub fn open(source: u32, room: u32) -> Opened
     }
 }
 
+#[tactic(auto, unfolding(laws::specs::Within::within))]
 fn is_room(room: u32) -> bool
     ensures { result ≡ is_room room }
 {
@@ -87,6 +91,7 @@ fn is_room(room: u32) -> bool
     room <= 65536
 }
 
+#[tactic(auto, unfolding(kept::specs::Kept::blank))]
 fn fresh(source: u32, room: u32) -> Receiver
     ensures { result ≡ fresh source room }
 {

@@ -1,4 +1,6 @@
 // The quantiser tables of a Q.
+#![tactic(auto)]
+
 mod standard;
 
 ghost use Rattle.std.specs.Prelude.{◌/◌, ◌≤◌, ◌<◌, ◌++◌, ◌≡◌, length, drop};

@@ -1,4 +1,6 @@
 // What a packet says: the reader of RTP packets with JPEG scan data.
+#![tactic(auto)]
+
 mod field;
 mod jpeg;
 mod restart;
@@ -20,7 +22,7 @@ use replies::Judged;
 
 // What the headers of every packet of a picture have in common: the type, Q, the sides in units of 8 pixels, and the restart
 // interval, 0 for types 0 and 1.
-#[derive(Drop)]
+#[derive(Clone, Copy)]
 pub struct Header {
     pub kind: u32,
     pub q: u32,
@@ -30,14 +32,14 @@ pub struct Header {
 }
 
 // A part of a packet: its place, and how many bytes it has. Tables that do not come have none.
-#[derive(Drop)]
+#[derive(Clone, Copy)]
 pub struct Part {
     pub at: usize,
     pub length: usize,
 }
 
 // What a packet says, and where its tables and its scan data lie in it.
-#[derive(Drop)]
+#[derive(Clone, Copy)]
 pub struct Packet {
     pub marker: u32,
     pub time: u32,
@@ -48,14 +50,14 @@ pub struct Packet {
 }
 
 // A refusal with its number, or what the packet says.
-#[derive(Drop)]
+#[derive(Clone, Copy)]
 pub enum Reading {
     Refused(u32),
     Said(Packet),
 }
 
 // Whether the pictures of a type have restart intervals, or are not carried at all.
-#[derive(Drop)]
+#[derive(Clone, Copy)]
 pub enum Restarts {
     Absent,
     Present,
@@ -63,7 +65,7 @@ pub enum Restarts {
 }
 
 // Where the tables of a Q come from, or that it has no meaning.
-#[derive(Drop)]
+#[derive(Clone, Copy)]
 pub enum TableSource {
     Made,
     KeptOrBrought,
