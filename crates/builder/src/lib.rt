@@ -1,4 +1,6 @@
 // The file of a whole picture: its head, its scan, and the marker that closes it.
+#![tactic(auto)]
+
 mod body;
 
 ghost use Rattle.std.specs.Prelude.{◌≤◌, ◌≡◌, length};

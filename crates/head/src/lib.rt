@@ -1,4 +1,6 @@
 // The head of a picture's file: the bytes in front of its scan.
+#![tactic(auto)]
+
 mod headers;
 mod huffman;
 mod segment;
@@ -12,7 +14,7 @@ use crate::huffman::put_huffman_tables;
 use crate::segment::{DQT, SOI, put_table};
 
 // What a head tells of a picture, its tables aside: type, sides in units of 8 pixels, and restart interval, 0 where there is none.
-#[derive(Drop)]
+#[derive(Clone, Copy)]
 pub struct Frame {
     pub kind: u8,
     pub width: u8,

@@ -1,3 +1,4 @@
+pub mod Laws
 pub mod Placing
 pub mod Taking
 pub mod Stepping

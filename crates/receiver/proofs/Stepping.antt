@@ -8,7 +8,7 @@ use Rattle.state.specs.WellFormed.{well_formed}
 use Rattle.state.specs.declared.Receiver.{Receiver}
 use Rattle.wire.specs.Reading.{scan_in}
 use Rattle.wire.specs.declared.Packet.{Packet}
-use Rattle.receiver.specs.Laws.{answers_9, when_left, when_accepted}
+use Rattle.receiver.proofs.Laws.{answers_9, when_left, when_accepted}
 use Rattle.receiver.specs.Picture.{picture_for}
 use Rattle.receiver.specs.Step.Decision.{leave, accept}
 use Rattle.receiver.specs.Step.{decision, taken, held, answering, took_in, area_after, Receives}

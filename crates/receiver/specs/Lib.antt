@@ -4,4 +4,3 @@ pub mod FirstPacket
 pub mod Verdict
 pub mod Known
 pub mod Step
-pub mod Laws

@@ -11,6 +11,7 @@ use kept::Kept;
 use wire::{Packet, TableSource};
 
 // Whether it brings no tables, and none are kept for its Q.
+#[tactic(auto, unfolding(crate::specs::FirstPacket::is_bare))]
 pub(crate) fn is_bare(kept: Kept, said: Packet) -> bool
     ensures { result ≡ First.is_bare kept said }
 {
@@ -26,6 +27,7 @@ pub(crate) fn is_bare(kept: Kept, said: Packet) -> bool
 }
 
 // The tables that a first packet gives its picture.
+#[tactic(auto, unfolding(crate::specs::FirstPacket::given))]
 pub(crate) fn given(kept: Kept, packet: &[u8], said: Packet) -> [u8; 128]
     ensures { result ≡ First.given kept packet.now said }
 {

@@ -19,7 +19,7 @@ use state::Receiver;
 use wire::{Header, Packet};
 
 // A reply that leaves all as it is, or the place at which the fragment goes.
-#[derive(Drop)]
+#[derive(Clone, Copy)]
 pub(crate) enum Verdict {
     Left(u32),
     Accepted(usize),
@@ -57,6 +57,7 @@ fn is_past(time: u32, held: u32, whole: u32) -> bool
     whole == 1
 }
 
+#[tactic(auto, unfolding(crate::specs::Verdict::is_unlike))]
 fn is_unlike(held: Header, header: Header) -> bool
     ensures { result ≡ Spec.is_unlike held header }
 {
@@ -163,6 +164,7 @@ fn agrees(tables: [u8; 128], packet: &[u8], said: Packet) -> bool
 
 // Whether a fragment contradicts those held, by what the one in front of its place, the end and the place tell. Where no byte is
 // shared, a fragment behind its place is what ends behind it.
+#[tactic(auto, unfolding(fragments::specs::Clash::near_clashes))]
 fn clashes(f: Fragment, placed: Placed, end: u32, count: u32) -> bool
     ensures { result ≡ near_clashes f placed.shares end placed.at count }
 {

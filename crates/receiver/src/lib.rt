@@ -1,4 +1,6 @@
 // The receiver's step: what a packet makes of a receiver and of the scan area that is lent with it.
+#![tactic(auto)]
+
 mod change;
 mod first_packet;
 mod judge;
@@ -24,7 +26,7 @@ use state::{Answer, Inspected, Receiver};
 use wire::{Packet, Reading};
 
 // What the step answers, and the next receiver.
-#[derive(Drop)]
+#[derive(Clone, Copy)]
 pub struct Received {
     pub answer: Answer,
     pub receiver: Receiver,

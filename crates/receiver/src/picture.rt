@@ -13,7 +13,7 @@ use wire::{Header, Packet};
 
 // Its numbers, without its fragments and tables, which are long to hand on: the receiver's, or, where the packet begins it, the packet's
 // own with nothing held.
-#[derive(Drop)]
+#[derive(Clone, Copy)]
 pub(crate) struct Numbers {
     pub(crate) begun: bool,
     pub(crate) time: u32,

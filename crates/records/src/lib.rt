@@ -1,4 +1,6 @@
 // Records of a stream, as RFC 4571 frames them: a length of two bytes, and a packet of so many for the receiver.
+#![tactic(auto)]
+
 ghost use Rattle.std.specs.Prelude.{◌+◌, ◌*◌, ◌≡◌};
 ghost use Rattle.records.specs.Framing.{TellsRecordLength};
 ghost use Rattle.records.specs.Taking.{Takes};
@@ -6,7 +8,7 @@ ghost use Rattle.records.specs.Taking.{Takes};
 use state::{Answer, Receiver};
 
 // What a stream goes on with: nothing, a record that it ends in, or a complete one, to whose packet the receiver answered this.
-#[derive(Drop)]
+#[derive(Clone, Copy)]
 pub enum Next {
     End,
     Cut,
@@ -14,7 +16,7 @@ pub enum Next {
 }
 
 // What the stream went on with, and the next receiver.
-#[derive(Drop)]
+#[derive(Clone, Copy)]
 pub struct Taken {
     pub came: Next,
     pub receiver: Receiver,

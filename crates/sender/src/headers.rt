@@ -21,6 +21,7 @@ pub(crate) fn headers_length(header: Header, tables: &[u8], offset: u32) -> usiz
     }
 }
 
+#[tactic(auto, unfolding(crate::specs::Packet::restart_header, laws::specs::Spelled::spelled))]
 pub(crate) fn restart_length(header: Header) -> usize
     ensures { result ≡ length (restart_header header not_by_intervals) }
 {
@@ -32,6 +33,7 @@ pub(crate) fn restart_length(header: Header) -> usize
 }
 
 // What the table header and the tables take of the first packet.
+#[tactic(auto, unfolding(crate::specs::Packet::table_header, laws::specs::Spelled::spelled))]
 pub(crate) fn taken_by_tables(header: Header, tables: &[u8]) -> usize
     requires { length tables.now ≤ 128 }
     ensures { result ≡ length (table_header header tables.now 0) }

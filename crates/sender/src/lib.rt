@@ -1,4 +1,6 @@
 // The packets of a picture: the sender of JPEG scan data in RTP packets.
+#![tactic(auto)]
+
 mod cut;
 mod headers;
 mod judge;
@@ -16,7 +18,7 @@ use wire::Header;
 
 // What RTP stamps on the packets of a picture: the sequence number, which is that of the first packet and counts on from there, the
 // picture's time stamp, and the source.
-#[derive(Drop)]
+#[derive(Clone, Copy)]
 pub struct Stamp {
     pub start: u16,
     pub time: u32,

@@ -1,4 +1,6 @@
 // The counts that a run is judged by: what its packets were answered, and what became of its pictures.
+#![tactic(auto)]
+
 ghost use Rattle.std.specs.Prelude.{◌≡◌};
 ghost use Rattle.tally.specs.Tally.{CountsNothing, Adds, Closes, TellsAccepted, raised, one_more_if, is_unfinished, gives_up};
 
@@ -6,7 +8,7 @@ use replies::{HELD, WHOLE};
 use state::{Answer, Receiver};
 
 // Every count is modulo 2^64, which no run comes to.
-#[derive(Drop)]
+#[derive(Clone, Copy)]
 pub struct Tally {
     // Packets that came.
     pub read: u64,
@@ -28,6 +30,7 @@ pub fn none() -> Tally
 }
 
 // With one packet more: its answer, and the receiver before and after it.
+#[tactic(auto, unfolding(crate::specs::Tally::added))]
 pub fn add(tally: Tally, before: Receiver, answer: Answer, after: Receiver) -> Tally
     ensures { Adds tally before answer after result }
 {
@@ -41,6 +44,7 @@ pub fn add(tally: Tally, before: Receiver, answer: Answer, after: Receiver) -> T
 }
 
 // At the end, with the receiver as the last packet left it: what it holds unfinished is given up.
+#[tactic(auto, unfolding(crate::specs::Tally::closed))]
 pub fn close(tally: Tally, last: Receiver) -> Tally
     ensures { Closes tally last result }
 {

@@ -1,4 +1,6 @@
 // Text that a program is handed and makes: a number, in decimal or hexadecimal digits, and the name of a picture's file.
+#![tactic(auto)]
+
 ghost use Rattle.std.specs.Prelude.{◌+◌, ◌≤◌, ◌++◌, ◌≡◌, length};
 ghost use Rattle.laws.specs.Put.{PutsUpTo};
 ghost use Rattle.laws.specs.Within.{Between};
@@ -8,7 +10,7 @@ ghost use Rattle.text.specs.Number.{digit as Number·digit};
 ghost use Rattle.text.specs.Reading.{read_on, too_large};
 
 // What a text says: a number that 32 bits hold, or no such number.
-#[derive(Drop)]
+#[derive(Clone, Copy)]
 pub enum Said {
     Number(u32),
     NoNumber,
