@@ -1,4 +1,6 @@
 // The C interface: thin entries over the crates below. include/ljosvark.h declares them for C.
+#![tactic(auto)]
+
 ghost use Rattle.builder.specs.Building.{Builds};
 ghost use Rattle.receiver.specs.Step.{Receives};
 ghost use Rattle.sender.specs.Picture.{picture};
@@ -71,15 +73,12 @@ pub extern "C" fn lj_open(source: u32, room: u32) -> Opened
 // The step in place: the host's own receiver becomes the next one. Again and the refusals leave it as it is: nothing to store.
 #[unsafe(no_mangle)]
 pub extern "C" fn lj_receive(receiver: &mut Receiver, area: &mut [u8], packet: &[u8]) -> Answer
-    ensures* { λ answer.
-        ⌜
-        Receives
+    ensures { Receives
         receiver.old
         area.old
         packet.now
-        (record { answer = answer; receiver = receiver.new })
-        area.new
-        ⌝ }
+        (record { answer = result; receiver = receiver.new })
+        area.new }
 {
     let done = receiver::receive(*receiver, area, packet);
     if done.answer.reply < AGAIN {
