@@ -1,9 +1,9 @@
 -- The cases that document 01 marks with a star under "Both sides of each line", as one table that the checker computes.
 -- Assumes nothing.
-use Rattle.std.specs.Prelude.{ℕ, ◌+◌, ◌-◌, ◌^◌, true, false, [], ◌∷◌, ◌≡◌, refl, get_or, replicate}
+use Rattle.std.specs.Prelude.{ℕ, ◌+◌, ◌-◌, ◌^◌, true, false, [], ◌∷◌, ◌≡◌, get_or, replicate}
 use Rattle.fragments.specs.declared.Fragment.{Fragment}
-use Rattle.receiver.specs.Picture.{begun, starts, picture_for}
-use Rattle.receiver.specs.Time.{ahead, is_newer}
+use Rattle.receiver.specs.Picture.{begun, starts}
+use Rattle.receiver.specs.Time.{is_newer}
 use Rattle.receiver.specs.Verdict.{verdict}
 use Rattle.replies.specs.Checks.{judged}
 use Rattle.replies.specs.declared.Judged.TheVariants.{Passed, Refused}
@@ -14,27 +14,26 @@ use Rattle.state.specs.Receiver.{fresh}
 use Rattle.state.specs.declared.Receiver.{Receiver}
 use Rattle.tables.specs.Quantiser.{scale, tables_of}
 use Rattle.wire.specs.declared.Packet.{Packet}
-use Rattle.demands.specs.Computing.{computes_sending, computes_tables}
 
 -- entry i of a Q's luma table, and of its chroma table
-abbrev luma : ℕ → ℕ → ℕ
+abbrev pub luma : ℕ → ℕ → ℕ
 luma q i = get_or (tables_of q) i 0
 
-abbrev chroma : ℕ → ℕ → ℕ
+abbrev pub chroma : ℕ → ℕ → ℕ
 chroma q i = get_or (tables_of q) (64 + i) 0
 
 -- a picture of type 0 and Q 50, and one of type 65 and Q 255 with its tables, each with a scan of n bytes
 abbrev pub plain : ℕ → Picture
 plain n = picture (record { kind = 0; q = 50; width = 2; height = 2; interval = 0 }) [] (replicate n 170)
 
-abbrev bringing : ℕ → Picture
+abbrev pub bringing : ℕ → Picture
 bringing n = picture (record { kind = 65; q = 255; width = 2; height = 2; interval = 4 }) (replicate 128 16) (replicate n 170)
 
-abbrev cut : ℕ → ℕ → ℕ → Fragment
+abbrev pub cut : ℕ → ℕ → ℕ → Fragment
 cut offset length marker = record { offset = offset; length = length; marker = marker }
 
 -- what a packet of that time stamp says, and a receiver that holds a picture of it
-abbrev stamped : ℕ → Packet
+abbrev pub stamped : ℕ → Packet
 stamped time = record {
   marker = 0;
   time = time;
@@ -44,7 +43,7 @@ stamped time = record {
   scan = record { at = 20; length = 4 };
 }
 
-abbrev held_at : ℕ → Receiver
+abbrev pub held_at : ℕ → Receiver
 held_at time = begun (fresh 1 65536) (stamped time)
 
 pub record BothSides : Type 0 where
@@ -71,31 +70,3 @@ pub record BothSides : Type 0 where
   pub half_way_less_1_starts : starts (held_at 0) (stamped (2 ^ 31 - 1)) ≡ true
   pub half_way : is_newer (2 ^ 31) 0 ≡ false
   pub half_way_past : verdict (held_at 0) [] [] (stamped (2 ^ 31)) ≡ Refused 22
-
-pub both_sides : BothSides
-unfolding computes_tables computes_sending ahead picture_for
-both_sides = record {
-  q_50_luma_0 = refl;
-  q_50_luma_2 = refl;
-  q_10_luma_0 = refl;
-  q_1_luma_5 = refl;
-  q_99_luma_0 = refl;
-  q_3_luma_1 = refl;
-  q_3_scale = refl;
-  q_51_chroma_63 = refl;
-  scan_172 = refl;
-  scan_172_packet_0 = refl;
-  scan_172_packet_1 = refl;
-  scan_173 = refl;
-  scan_173_packet_1 = refl;
-  scan_173_packet_2 = refl;
-  tables_in_the_first = refl;
-  tables_packet_2 = refl;
-  tables_packet_3 = refl;
-  across_2^32 = refl;
-  across_2^32_starts = refl;
-  half_way_less_1 = refl;
-  half_way_less_1_starts = refl;
-  half_way = refl;
-  half_way_past = refl;
-}

@@ -1,5 +1,4 @@
 -- What computed cases compute with: to unfold one of these names is to unfold every definition on its line. Assumes nothing.
-use mathlib.Core.List.{flat_map}
 use Rattle.builder.specs.File.{is_closed, body, file}
 use Rattle.fragments.specs.Array.{no_fragments, padded}
 use Rattle.fragments.specs.Clash.{clashes}
@@ -31,6 +30,7 @@ use Rattle.wire.specs.Restart.{interval, restart_end}
 use Rattle.wire.specs.Rtp.{headers_end, dropped, padding_broken, payload_length, payload}
 use Rattle.wire.specs.TableSource.{table_source}
 use Rattle.wire.specs.Tables.{has_table_header, tables_length, precision, tables_at, scan_at, table_rule_broken, are_full}
+use mathlib.Core.List.{flat_map}
 
 -- the tables of a Q
 unfoldable pub computes_tables : Unit {0}

@@ -1,6 +1,5 @@
 -- Any two outcomes of a public function that satisfy its contract, at the same inputs, are equal. Assumes nothing.
-use Rattle.std.specs.Prelude.{ℕ, List, ◌≡◌}
-use Rattle.std.proofs.Common.{sym, ap, ◌∙◌}
+use Rattle.std.specs.Prelude.{◌≡◌, ℕ, List}
 use Rattle.builder.specs.Building.{Builds}
 use Rattle.fragments.specs.Array.{Surveys, Places, PutsIn, HasNone}
 use Rattle.fragments.specs.declared.Fragment.{Fragment}
@@ -9,10 +8,9 @@ use Rattle.head.specs.declared.Frame.{Frame}
 use Rattle.kept.specs.Kept.{IsNone, TellsHas, Finds, Keeps, TellsWell, TellsBlank}
 use Rattle.kept.specs.declared.Kept.{Kept}
 use Rattle.receiver.specs.Step.{Receives}
-use Rattle.receiver.specs.declared.Received.{Received}
 use Rattle.records.specs.Framing.{TellsRecordLength}
 use Rattle.records.specs.Taking.{Takes}
-use Rattle.replies.specs.Output.{Decision, Writes, IsRefusal, IsSuccess, writes_determined}
+use Rattle.replies.specs.Output.{IsRefusal, IsSuccess}
 use Rattle.sender.specs.Picture.{Picture}
 use Rattle.sender.specs.Sending.{Sends}
 use Rattle.sender.specs.declared.Stamp.{Stamp}
@@ -24,7 +22,7 @@ use Rattle.state.specs.declared.Receiver.{Receiver}
 use Rattle.tables.specs.MakeTables.{MakesTables}
 use Rattle.tally.specs.Tally.{CountsNothing, Adds, Closes, TellsAccepted}
 use Rattle.tally.specs.declared.Tally.{Tally}
-use Rattle.text.specs.FileName.{Names, names_determined}
+use Rattle.text.specs.FileName.{Names}
 use Rattle.text.specs.Number.{TellsNumber}
 use Rattle.wire.specs.Kind.{TellsRestarts}
 use Rattle.wire.specs.Lawful.{TellsLawful}
@@ -44,147 +42,140 @@ DeterminesBoth {A} {B} Contract = (x x' : A) (y y' : B) → Contract x y → Con
 abbrev pub DeterminesAll : {A B C : Type 0} → (A → B → C → Type 0) → Type 0
 DeterminesAll {A} {B} {C} Contract = (x x' : A) (y y' : B) (z z' : C) → Contract x y z → Contract x' y' z' → (x ≡ x') × (y ≡ y') × (z ≡ z')
 
--- an outcome that has to equal a definition is determined, and so is that of a call that writes into an output
-only : {A : Type 0} {d : A} → Determines (λ (x : A). x ≡ d)
-only x x' a b = a ∙ sym b
-
-written : {short : ℕ} {d : Decision} {before : List ℕ} → DeterminesBoth (Writes short d before)
-written w w' after after' a b = writes_determined a b
+-- ---- what is proved
 
 -- `replies::Written::refusal` and `replies::Written::success`
-pub refusal : (n : ℕ) → Determines (IsRefusal n)
-refusal n = only
+abbrev pub RefusalIsDetermined : Type 0
+RefusalIsDetermined = (n : ℕ) → Determines (IsRefusal n)
 
-pub success : (n : ℕ) → Determines (IsSuccess n)
-success n = only
+abbrev pub SuccessIsDetermined : Type 0
+SuccessIsDetermined = (n : ℕ) → Determines (IsSuccess n)
 
 -- `tables::make_tables`, and `ljosvark::lj_make_tables`, which has the same contract: the answer and the output
-pub make_tables : (q : ℕ) (before : List ℕ) → DeterminesBoth (MakesTables q before)
-make_tables q before = written
+abbrev pub MakeTablesIsDetermined : Type 0
+MakeTablesIsDetermined = (q : ℕ) (before : List ℕ) → DeterminesBoth (MakesTables q before)
 
 -- `wire::read`; `wire::scan` and `wire::tables`, by the bytes that they hand out; and what `wire::restarts_of`, `wire::table_source`,
 -- `wire::is_lawful` and `wire::are_full` tell of a type, a Q, header fields and tables
-pub read : (source : ℕ) (packet : List ℕ) → Determines (Reads source packet)
-read source packet = only
+abbrev pub ReadIsDetermined : Type 0
+ReadIsDetermined = (source : ℕ) (packet : List ℕ) → Determines (Reads source packet)
 
-pub scan : (packet : List ℕ) (said : Packet) → Determines (GivesScan packet said)
-scan packet said = only
+abbrev pub ScanIsDetermined : Type 0
+ScanIsDetermined = (packet : List ℕ) (said : Packet) → Determines (GivesScan packet said)
 
-pub tables : (packet : List ℕ) (said : Packet) → Determines (GivesTables packet said)
-tables packet said = only
+abbrev pub TablesIsDetermined : Type 0
+TablesIsDetermined = (packet : List ℕ) (said : Packet) → Determines (GivesTables packet said)
 
-pub restarts_of : (kind : ℕ) → Determines (TellsRestarts kind)
-restarts_of kind = only
+abbrev pub RestartsOfIsDetermined : Type 0
+RestartsOfIsDetermined = (kind : ℕ) → Determines (TellsRestarts kind)
 
-pub table_source : (q : ℕ) → Determines (TellsSource q)
-table_source q = only
+abbrev pub TableSourceIsDetermined : Type 0
+TableSourceIsDetermined = (q : ℕ) → Determines (TellsSource q)
 
-pub is_lawful : (header : Header) → Determines (TellsLawful header)
-is_lawful header = only
+abbrev pub IsLawfulIsDetermined : Type 0
+IsLawfulIsDetermined = (header : Header) → Determines (TellsLawful header)
 
-pub are_full : (tables : List ℕ) → Determines (TellsFull tables)
-are_full tables = only
+abbrev pub AreFullIsDetermined : Type 0
+AreFullIsDetermined = (tables : List ℕ) → Determines (TellsFull tables)
 
 -- `slices::part`, by the bytes that it hands out, `slices::put` and `slices::are_same`
-pub part : (s : List ℕ) (at n : ℕ) → Determines (GivesPart s at n)
-part s at n = only
+abbrev pub PartIsDetermined : Type 0
+PartIsDetermined = (s : List ℕ) (at n : ℕ) → Determines (GivesPart s at n)
 
-pub put : (before : List ℕ) (at : ℕ) (bytes : List ℕ) → Determines (PutsAt before at bytes)
-put before at bytes = only
+abbrev pub PutIsDetermined : Type 0
+PutIsDetermined = (before : List ℕ) (at : ℕ) (bytes : List ℕ) → Determines (PutsAt before at bytes)
 
-pub are_same : (a b : List ℕ) → Determines (TellsSame a b)
-are_same a b = only
+abbrev pub AreSameIsDetermined : Type 0
+AreSameIsDetermined = (a b : List ℕ) → Determines (TellsSame a b)
 
 -- `sender::packet`, and `ljosvark::lj_packet`, which has the same contract: the answer and the output
-pub packet : (p : Picture) (size : ℕ) (s : Stamp) (k : ℕ) (before : List ℕ) → DeterminesBoth (Sends p size s k before)
-packet p size s k before = written
+abbrev pub PacketIsDetermined : Type 0
+PacketIsDetermined = (p : Picture) (size : ℕ) (s : Stamp) (k : ℕ) (before : List ℕ) → DeterminesBoth (Sends p size s k before)
 
 -- `fragments::none`, `fragments::survey`, `fragments::place` and `fragments::insert`
-pub no_fragments : Determines HasNone
-no_fragments = only
+abbrev pub NoFragmentsIsDetermined : Type 0
+NoFragmentsIsDetermined = Determines HasNone
 
-pub survey : (a : List Fragment) (count : ℕ) → Determines (Surveys a count)
-survey a count = only
+abbrev pub SurveyIsDetermined : Type 0
+SurveyIsDetermined = (a : List Fragment) (count : ℕ) → Determines (Surveys a count)
 
-pub place : (a : List Fragment) (count : ℕ) (f : Fragment) → Determines (Places a count f)
-place a count f = only
+abbrev pub PlaceIsDetermined : Type 0
+PlaceIsDetermined = (a : List Fragment) (count : ℕ) (f : Fragment) → Determines (Places a count f)
 
-pub insert : (a : List Fragment) (count at : ℕ) (f : Fragment) → Determines (PutsIn a count at f)
-insert a count at f = only
+abbrev pub InsertIsDetermined : Type 0
+InsertIsDetermined = (a : List Fragment) (count at : ℕ) (f : Fragment) → Determines (PutsIn a count at f)
 
 -- the store: `kept::none`, `kept::has`, `kept::find`, `kept::keep`, `kept::well_kept` and `kept::is_blank`
-pub none : Determines IsNone
-none = only
+abbrev pub NoneIsDetermined : Type 0
+NoneIsDetermined = Determines IsNone
 
-pub has : (k : Kept) (q : ℕ) → Determines (TellsHas k q)
-has k q = only
+abbrev pub HasIsDetermined : Type 0
+HasIsDetermined = (k : Kept) (q : ℕ) → Determines (TellsHas k q)
 
-pub find : (k : Kept) (q : ℕ) → Determines (Finds k q)
-find k q = only
+abbrev pub FindIsDetermined : Type 0
+FindIsDetermined = (k : Kept) (q : ℕ) → Determines (Finds k q)
 
-pub keep : (k : Kept) (q : ℕ) (tables : List ℕ) → Determines (Keeps k q tables)
-keep k q tables = only
+abbrev pub KeepIsDetermined : Type 0
+KeepIsDetermined = (k : Kept) (q : ℕ) (tables : List ℕ) → Determines (Keeps k q tables)
 
-pub well_kept : (k : Kept) → Determines (TellsWell k)
-well_kept k = only
+abbrev pub WellKeptIsDetermined : Type 0
+WellKeptIsDetermined = (k : Kept) → Determines (TellsWell k)
 
-pub is_blank : (tables : List ℕ) → Determines (TellsBlank tables)
-is_blank tables = only
+abbrev pub IsBlankIsDetermined : Type 0
+IsBlankIsDetermined = (tables : List ℕ) → Determines (TellsBlank tables)
 
 -- `state::open`, and `ljosvark::lj_open`, which has the same contract; `state::inspect` and `state::whole_flag`
-pub opens : (source room : ℕ) → Determines (Opens source room)
-opens source room = only
+abbrev pub OpensIsDetermined : Type 0
+OpensIsDetermined = (source room : ℕ) → Determines (Opens source room)
 
-pub inspect : (r : Receiver) → Determines (Inspects r)
-inspect r = only
+abbrev pub InspectIsDetermined : Type 0
+InspectIsDetermined = (r : Receiver) → Determines (Inspects r)
 
-pub whole_flag : (end bytes : ℕ) → Determines (TellsWhole end bytes)
-whole_flag end bytes = only
+abbrev pub WholeFlagIsDetermined : Type 0
+WholeFlagIsDetermined = (end bytes : ℕ) → Determines (TellsWhole end bytes)
 
 -- `receiver::receive`: the answer with the next receiver, and the area
-pub receive : (r : Receiver) (area packet : List ℕ) → DeterminesBoth (Receives r area packet)
-receive r area packet d d' after after' a b = (only d d' a.answer b.answer, only after after' a.lent b.lent)
+abbrev pub ReceiveIsDetermined : Type 0
+ReceiveIsDetermined = (r : Receiver) (area packet : List ℕ) → DeterminesBoth (Receives r area packet)
 
 -- `ljosvark::lj_receive`: the answer, the receiver that is left behind the reference, and the area
-pub receive_in_place : (r : Receiver) (area packet : List ℕ) → DeterminesAll (λ (answer : Answer) (next : Receiver) (after : List ℕ). Receives r area packet (record { answer = answer; receiver = next }) after)
-receive_in_place r area packet x x' next next' after after' a b =
-    let same = receive r area packet (record { answer = x; receiver = next }) (record { answer = x'; receiver = next' }) after after' a b in
-    (ap (λ (d : Received). d.answer) same.0, ap (λ (d : Received). d.receiver) same.0, same.1)
+abbrev pub ReceiveInPlaceIsDetermined : Type 0
+ReceiveInPlaceIsDetermined = (r : Receiver) (area packet : List ℕ) → DeterminesAll (λ (answer : Answer) (next : Receiver) (after : List ℕ). Receives r area packet (record { answer = answer; receiver = next }) after)
 
 -- `head::length` and `head::put`
-pub head_length : (interval : ℕ) → Determines (TellsHeadLength interval)
-head_length interval = only
+abbrev pub HeadLengthIsDetermined : Type 0
+HeadLengthIsDetermined = (interval : ℕ) → Determines (TellsHeadLength interval)
 
-pub put_head : (f : Frame) (tables before : List ℕ) → Determines (PutsHead f tables before)
-put_head f tables before = only
+abbrev pub PutHeadIsDetermined : Type 0
+PutHeadIsDetermined = (f : Frame) (tables before : List ℕ) → Determines (PutsHead f tables before)
 
 -- `builder::build`, and `ljosvark::lj_build`, which has the same contract: the answer and the output
-pub build : (r : Receiver) (area before : List ℕ) → DeterminesBoth (Builds r area before)
-build r area before = written
+abbrev pub BuildIsDetermined : Type 0
+BuildIsDetermined = (r : Receiver) (area before : List ℕ) → DeterminesBoth (Builds r area before)
 
 -- `records::length`, and `records::take`: what came with the next receiver, and the area
-pub record_length : (bytes : List ℕ) → Determines (TellsRecordLength bytes)
-record_length bytes = only
+abbrev pub RecordLengthIsDetermined : Type 0
+RecordLengthIsDetermined = (bytes : List ℕ) → Determines (TellsRecordLength bytes)
 
-pub take_record : (r : Receiver) (area bytes : List ℕ) → DeterminesBoth (Takes r area bytes)
-take_record r area bytes t t' after after' a b = (only t t' a.taken b.taken, only after after' a.lent b.lent)
+abbrev pub TakeRecordIsDetermined : Type 0
+TakeRecordIsDetermined = (r : Receiver) (area bytes : List ℕ) → DeterminesBoth (Takes r area bytes)
 
 -- the counts of a run: `tally::none`, `tally::add`, `tally::close` and `tally::accepted`
-pub no_counts : Determines CountsNothing
-no_counts = only
+abbrev pub NoCountsIsDetermined : Type 0
+NoCountsIsDetermined = Determines CountsNothing
 
-pub add_count : (t : Tally) (before : Receiver) (answer : Answer) (after : Receiver) → Determines (Adds t before answer after)
-add_count t before answer after = only
+abbrev pub AddCountIsDetermined : Type 0
+AddCountIsDetermined = (t : Tally) (before : Receiver) (answer : Answer) (after : Receiver) → Determines (Adds t before answer after)
 
-pub close_counts : (t : Tally) (last : Receiver) → Determines (Closes t last)
-close_counts t last = only
+abbrev pub CloseCountsIsDetermined : Type 0
+CloseCountsIsDetermined = (t : Tally) (last : Receiver) → Determines (Closes t last)
 
-pub accepted : (t : Tally) → Determines (TellsAccepted t)
-accepted t = only
+abbrev pub AcceptedIsDetermined : Type 0
+AcceptedIsDetermined = (t : Tally) → Determines (TellsAccepted t)
 
 -- `text::number`, and `text::file_name`: the answer and the output
-pub number : (text : List ℕ) → Determines (TellsNumber text)
-number text = only
+abbrev pub NumberIsDetermined : Type 0
+NumberIsDetermined = (text : List ℕ) → Determines (TellsNumber text)
 
-pub file_name : (prefix : List ℕ) (n : ℕ) (before : List ℕ) → DeterminesBoth (Names prefix n before)
-file_name prefix n before a a' after after' x y = names_determined x y
+abbrev pub FileNameIsDetermined : Type 0
+FileNameIsDetermined = (prefix : List ℕ) (n : ℕ) (before : List ℕ) → DeterminesBoth (Names prefix n before)

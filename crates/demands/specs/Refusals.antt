@@ -1,43 +1,27 @@
 -- Demand 1: "A refusal has a number, hands back the receiver it was given, and changes no lent byte." Again, which is no refusal,
 -- hands both back too. Assumes nothing.
-use Rattle.std.specs.Prelude.{ℕ, Bool, true, List, [], ◌∷◌, ◌++◌, ◌≡◌, refl, eqb}
-use Rattle.std.proofs.Common.{sym, ap, ap₂, ◌∙◌, ne_eqb}
-use Rattle.builder.specs.Building as Building
-use Rattle.builder.specs.Building.{Builds, building, file_of}
-use Rattle.fragments.specs.Fragments.{fragment_at}
+use Rattle.std.specs.Prelude.{ℕ, Bool, true, List, [], ◌∷◌, ◌++◌, ◌≡◌, eqb}
 use Rattle.laws.specs.Any.{any}
-use Rattle.laws.specs.Each.{Each}
-use Rattle.laws.specs.Truth.{split}
-use Rattle.laws.specs.Within.{between}
-use Rattle.receiver.specs.Laws.{by_decision, left_by, reply_small, when_left}
-use Rattle.receiver.specs.Step.{Receives, held}
+use Rattle.receiver.specs.Step.{held, Receives}
 use Rattle.receiver.specs.declared.Received.{Received}
-use Rattle.records.specs.Framing.{front}
-use Rattle.records.specs.Taking.{Takes}
-use Rattle.records.specs.declared.Taken.{Taken}
-use Rattle.replies.specs.Checks.{Check, judged, numbered}
-use Rattle.replies.specs.Output.{Writes, decided, refusal_leaves, reply_by}
 use Rattle.replies.specs.Reply
 use Rattle.replies.specs.declared.Written.{Written}
-use Rattle.sender.specs.Cuts.{cuts}
-use Rattle.sender.specs.Packet as Packet
+use Rattle.state.specs.declared.Receiver.{Receiver}
+use Rattle.builder.specs.Building.{Builds}
+use Rattle.laws.specs.Each.{Each}
+use Rattle.records.specs.Taking.{Takes}
+use Rattle.records.specs.declared.Taken.{Taken}
 use Rattle.sender.specs.Picture.{Picture}
-use Rattle.sender.specs.Sending as Sending
-use Rattle.sender.specs.Sending.{Sends, sending}
+use Rattle.sender.specs.Sending.{Sends}
 use Rattle.sender.specs.declared.Stamp.{Stamp}
-use Rattle.state.specs.Opening.{Opens, opens as opens-when, opens_not}
+use Rattle.state.specs.Opening.{Opens}
 use Rattle.state.specs.Receiver.{fresh}
-use Rattle.state.specs.WellFormed.{is_room}
 use Rattle.state.specs.declared.Answer.{Answer}
 use Rattle.state.specs.declared.Opened.{Opened}
-use Rattle.state.specs.declared.Receiver.{Receiver}
-use Rattle.tables.specs.MakeTables as MakeTables
-use Rattle.tables.specs.MakeTables.{MakesTables, tables_for}
-use Rattle.tables.specs.Quantiser.{tables_of}
-use Rattle.wire.specs.Readable.{read_refused}
+use Rattle.tables.specs.MakeTables.{MakesTables}
 use Rattle.wire.specs.Reading.{Reads}
 use Rattle.wire.specs.declared.Reading.TheVariants as Reading
-use Rattle.demands.specs.History.{State, state, Calls, NotAccepted, small_accepted, packet_in, answer_in, take_calls}
+use Rattle.demands.specs.History.{State, Calls, NotAccepted, answer_in}
 
 -- The numbers of refusals in document 01's table of replies: of table making, the sender, the builder, the reader and the receiver.
 abbrev pub of_tables : List ℕ
@@ -68,41 +52,6 @@ pub record Refused (numbers before : List ℕ) (w : Written) (after : List ℕ) 
   pub no_length : w.length ≡ 0
   pub no_byte_changed : after ≡ before
 
--- where checks decide
-refused : {short : ℕ} {before after : List ℕ} {w : Written} (numbers : List ℕ) (checks : List Check) (bytes : List ℕ) → Writes short (decided (judged checks) bytes) before w after → is_one_of (Reply.success ∷ numbers) short ≡ true → numbered (is_one_of (Reply.success ∷ numbers)) checks ≡ true → (w.reply ≡ Reply.success → ⊥) → Refused numbers before w after
-refused {w = w} numbers checks bytes a full all refuses =
-    let l = refusal_leaves a refuses in
-    record {
-      number = rw (ne_eqb w.reply Reply.success refuses) at (reply_by checks bytes a (is_one_of (Reply.success ∷ numbers)) refl full all);
-      no_length = l.0;
-      no_byte_changed = l.1;
-    }
-
--- `tables::make_tables` and `ljosvark::lj_make_tables`
-pub make_tables : (q : ℕ) (before : List ℕ) (w : Written) (after : List ℕ) → MakesTables q before w after → (w.reply ≡ Reply.success → ⊥) → Refused of_tables before w after
-unfolding tables_for
-make_tables q before w after a refuses = refused of_tables (MakeTables.checks q) (tables_of q) a refl refl refuses
-
--- `sender::packet` and `ljosvark::lj_packet`
-pub packet : (p : Picture) (size : ℕ) (s : Stamp) (k : ℕ) (before : List ℕ) (w : Written) (after : List ℕ) → Sends p size s k before w after → (w.reply ≡ Reply.success → ⊥) → Refused of_sender before w after
-unfolding sending
-packet p size s k before w after a refuses = refused of_sender (Sending.checks p size k) (Packet.packet s p k (fragment_at (cuts size p) k)) a refl refl refuses
-
--- `builder::build` and `ljosvark::lj_build`
-pub build : (r : Receiver) (area before : List ℕ) (w : Written) (after : List ℕ) → Builds r area before w after → (w.reply ≡ Reply.success → ⊥) → Refused of_builder before w after
-unfolding building
-build r area before w after a refuses = refused of_builder (Building.checks r area) (file_of r area) a refl refl refuses
-
--- `wire::read`, which is lent nothing to write
-pub read : (source : ℕ) (packet : List ℕ) (n : ℕ) → Reads source packet (Reading.Refused n) → is_one_of of_reader n ≡ true
-read source packet n a = read_refused source packet (is_one_of of_reader) refl (sym a)
-
--- `state::open` and `ljosvark::lj_open`: 7, and the fresh receiver that document 01 asks for
-pub opens : (source room : ℕ) (o : Opened) → Opens source room o → (o.answer.reply ≡ Reply.success → ⊥) → o ≡ record { answer = record { reply = 7; held = 0 }; receiver = fresh source 0 }
-opens source room o a refuses = split (is_room room)
-    (λ e. absurd (refuses (ap (λ (x : Opened). x.answer.reply) a ∙ rw (opens-when source room (between 1 65536 room e)))))
-    (λ e. a ∙ opens_not source room e)
-
 -- A call of the receiver that changes nothing: its reply, how many scan bytes are held as before, and what it gives back.
 pub record Unchanged (r : Receiver) (area : List ℕ) (d : Received) (after : List ℕ) : Type 0 where
   pub number : is_one_of unchanging d.answer.reply ≡ true
@@ -110,32 +59,36 @@ pub record Unchanged (r : Receiver) (area : List ℕ) (d : Received) (after : Li
   pub receiver_handed_back : d.receiver ≡ r
   pub area_as_it_was : after ≡ area
 
+-- ---- what is proved
+
+-- `tables::make_tables` and `ljosvark::lj_make_tables`
+abbrev pub TablesRefuse : Type 0
+TablesRefuse = (q : ℕ) (before : List ℕ) (w : Written) (after : List ℕ) → MakesTables q before w after → (w.reply ≡ Reply.success → ⊥) → Refused of_tables before w after
+
+-- `sender::packet` and `ljosvark::lj_packet`
+abbrev pub SenderRefuses : Type 0
+SenderRefuses = (p : Picture) (size : ℕ) (s : Stamp) (k : ℕ) (before : List ℕ) (w : Written) (after : List ℕ) → Sends p size s k before w after → (w.reply ≡ Reply.success → ⊥) → Refused of_sender before w after
+
+-- `builder::build` and `ljosvark::lj_build`
+abbrev pub BuilderRefuses : Type 0
+BuilderRefuses = (r : Receiver) (area before : List ℕ) (w : Written) (after : List ℕ) → Builds r area before w after → (w.reply ≡ Reply.success → ⊥) → Refused of_builder before w after
+
+-- `wire::read`, which is lent nothing to write
+abbrev pub ReaderRefuses : Type 0
+ReaderRefuses = (source : ℕ) (packet : List ℕ) (n : ℕ) → Reads source packet (Reading.Refused n) → is_one_of of_reader n ≡ true
+
+-- `state::open` and `ljosvark::lj_open`: 7, and the fresh receiver that document 01 asks for
+abbrev pub OpeningRefuses : Type 0
+OpeningRefuses = (source room : ℕ) (o : Opened) → Opens source room o → (o.answer.reply ≡ Reply.success → ⊥) → o ≡ record { answer = record { reply = 7; held = 0 }; receiver = fresh source 0 }
+
 -- `receiver::receive` and `ljosvark::lj_receive`: any reply but held and whole is again or a refusal
-pub receive : (r : Receiver) (area p : List ℕ) (d : Received) (after : List ℕ) → Receives r area p d after → NotAccepted d.answer → Unchanged r area d after
-receive r area p d after a not = by_decision r area p
-    (λ n l decided.
-    let left = when_left r area p decided in
-    let given = a.answer ∙ left.0 in
-    record {
-      number = rw given (left_by r area p (is_one_of unchanging) (λ w. refl) (λ o. refl) refl (λ s. refl) l);
-      count = rw given;
-      receiver_handed_back = rw given;
-      area_as_it_was = a.lent ∙ left.1;
-    })
-    (λ t. absurd (not (small_accepted d.answer (rw a.answer (reply_small r area p t)))))
+abbrev pub ReceiverRefuses : Type 0
+ReceiverRefuses = (r : Receiver) (area p : List ℕ) (d : Received) (after : List ℕ) → Receives r area p d after → NotAccepted d.answer → Unchanged r area d after
 
 -- So calls of which none is answered with held or whole leave receiver and area as they were, however many they are,
-pub calls_unchanged : (x : State) (packets : List (List ℕ)) (answered : List Answer) (y : State) → Calls x packets answered y → Each NotAccepted answered → y ≡ x
-calls_unchanged x [] [] y c none = sym c
-calls_unchanged x [] (a ∷ answered) y c none = absurd c
-calls_unchanged x (p ∷ packets) [] y c none = absurd c
-calls_unchanged x (p ∷ packets) (a ∷ answered) y c none =
-    let z = c.0 in
-    let u = receive x.receiver x.area p (record { answer = a; receiver = z.receiver }) z.area c.1 none.0 in
-    calls_unchanged z packets answered y c.2 none.1 ∙ ap₂ state u.receiver_handed_back u.area_as_it_was
+abbrev pub CallsLeaveAll : Type 0
+CallsLeaveAll = (x : State) (packets : List (List ℕ)) (answered : List Answer) (y : State) → Calls x packets answered y → Each NotAccepted answered → y ≡ x
 
 -- and so does `records::take` at the end of a stream, in a cut record, and with a packet that is not accepted.
-pub take_record : (r : Receiver) (area bytes : List ℕ) (t : Taken) (after : List ℕ) → Takes r area bytes t after → Each NotAccepted (answer_in t.came) → (t.receiver ≡ r) × (after ≡ area)
-take_record r area bytes t after met none =
-    let same = calls_unchanged (state r area) (packet_in (front bytes)) (answer_in t.came) (state t.receiver after) (take_calls r area bytes t after met) none in
-    (ap (λ (x : State). x.receiver) same, ap (λ (x : State). x.area) same)
+abbrev pub RecordsLeaveAll : Type 0
+RecordsLeaveAll = (r : Receiver) (area bytes : List ℕ) (t : Taken) (after : List ℕ) → Takes r area bytes t after → Each NotAccepted (answer_in t.came) → (t.receiver ≡ r) × (after ≡ area)

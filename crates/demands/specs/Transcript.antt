@@ -1,16 +1,12 @@
 -- Document 01's transcript on the definitions, computed. Assumes nothing.
-use Rattle.std.specs.Prelude.{ℕ, ◌+◌, List, [], ◌∷◌, ◌≡◌, refl, length, take, replicate}
-use Rattle.std.proofs.Common.{arith}
+use Rattle.std.specs.Prelude.{ℕ, ◌+◌, List, [], ◌∷◌, ◌≡◌, length, take, replicate}
 use Rattle.builder.specs.Building.{checks, file_of}
-use Rattle.builder.specs.File.{file}
 use Rattle.receiver.specs.Step.{held}
 use Rattle.replies.specs.Checks.{judged}
 use Rattle.replies.specs.declared.Judged.TheVariants.{Passed}
 use Rattle.state.specs.Receiver.{fresh}
 use Rattle.state.specs.declared.Answer.{Answer}
-use Rattle.wire.specs.Field.{Bytes}
-use Rattle.demands.specs.Computing.{computes_file, computes_step}
-use Rattle.demands.specs.History.{State, state, History, step, after, answers, history}
+use Rattle.demands.specs.History.{State, state, step, after, answers}
 
 -- its second packet, and its first
 abbrev pub second : List ℕ
@@ -19,22 +15,22 @@ second = 0x80 ∷ 0x9A ∷ 0x00 ∷ 0x01 ∷ 0x00 ∷ 0x00 ∷ 0x03 ∷ 0xE8 ∷
 abbrev pub first : List ℕ
 first = 0x80 ∷ 0x1A ∷ 0x00 ∷ 0x00 ∷ 0x00 ∷ 0x00 ∷ 0x03 ∷ 0xE8 ∷ 0x00 ∷ 0x00 ∷ 0x00 ∷ 0x01 ∷ 0x00 ∷ 0x00 ∷ 0x00 ∷ 0x00 ∷ 0x01 ∷ 0x32 ∷ 0x02 ∷ 0x02 ∷ 0xAA ∷ 0xBB ∷ []
 
-abbrev packets : List (List ℕ)
+abbrev pub packets : List (List ℕ)
 packets = second ∷ second ∷ first ∷ first ∷ []
 
 -- A room of 6 is enough for its scan of 4 bytes.
-abbrev start : State
+abbrev pub start : State
 start = state (fresh 1 6) (replicate 6 7)
 
-abbrev answer : ℕ → ℕ → Answer
+abbrev pub answer : ℕ → ℕ → Answer
 answer reply held = record { reply = reply; held = held }
 
 -- "1 0 2", "2 2 2", "3 1 4", "4 22 4"
-abbrev lines : List Answer
+abbrev pub lines : List Answer
 lines = answer 0 2 ∷ answer 2 2 ∷ answer 1 4 ∷ answer 22 4 ∷ []
 
 -- What its first three packets leave. "The file after packet 3 has 605 + 4 + 2 = 611 bytes."
-abbrev left : State
+abbrev pub left : State
 left = after step start (take 3 packets)
 
 pub record Transcript : Type 0 where
@@ -42,14 +38,3 @@ pub record Transcript : Type 0 where
   pub area : left.area ≡ 0xAA ∷ 0xBB ∷ 0xCC ∷ 0xDD ∷ 7 ∷ 7 ∷ []
   pub whole : judged (checks left.receiver left.area) ≡ Passed
   pub file : length (file_of left.receiver left.area) ≡ 605 + 4 + 2
-
-pub transcript : Transcript
-unfolding computes_step computes_file
-transcript = record { answered = refl; area = refl; whole = refl; file = refl }
-
--- It is a history such as the theorems speak of.
-pub as_history : History 1 6 packets lines (after step start packets)
-as_history =
-    let a : Bytes first = omega arith in
-    let b : Bytes second = omega arith in
-    rw transcript.answered at (history 1 6 (replicate 6 7) packets (omega arith) refl (b, (b, (a, (a, tt)))))

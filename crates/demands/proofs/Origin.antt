@@ -1,8 +1,7 @@
 -- After any packets, each byte that is held is one that a packet brought for its place, and that was accepted for the picture that
 -- is held. Assumes nothing.
+use Rattle.std.proofs.Common.{append_assoc, append-nil, sym, subst, ◌∙◌, arith, ap}
 use Rattle.std.specs.Prelude.{ℕ, zero, suc, ◌-◌, ◌^◌, ◌≤◌, ◌<◌, true, false, cond, List, [], ◌∷◌, ◌++◌, ◌≡◌, refl, length, get_or}
-use Rattle.std.proofs.Common.{append_assoc, append-nil, sym, subst, ◌∙◌, arith}
-use Rattle.std.proofs.Math.Path.{ap}
 use Rattle.fragments.specs.Fragments.{stop, nothing, fragment_at}
 use Rattle.fragments.specs.Held.{end_of, Whole, is_whole, no_gap, ended}
 use Rattle.fragments.specs.Insertion.{insert, any_insert}
@@ -13,7 +12,7 @@ use Rattle.laws.specs.Any.{any}
 use Rattle.laws.specs.Each.{Each, each_append, each_at}
 use Rattle.laws.specs.Put.{get_d_put}
 use Rattle.laws.specs.Truth.{split, never_both}
-use Rattle.receiver.specs.Laws.{Taken, by_decision, when_accepted, reply_small, time_taken, held_taken}
+use Rattle.receiver.proofs.Laws.{Taken, by_decision, when_accepted, reply_small, time_taken, held_taken}
 use Rattle.receiver.specs.Picture.{starts, picture_for, picture_begun, picture_held, picture_room}
 use Rattle.receiver.specs.Step.{taken}
 use Rattle.receiver.specs.Verdict.{fragment_of}
@@ -25,10 +24,12 @@ use Rattle.wire.specs.Field.{Bytes}
 use Rattle.wire.specs.Readable.{read_packet, scan_long}
 use Rattle.wire.specs.Reading.{scan_in}
 use Rattle.wire.specs.declared.Packet.{Packet}
-use Rattle.demands.specs.Arrived.{leaves_all}
-use Rattle.demands.specs.History.{State, step, after, answers, after_append, small_accepted}
+use Rattle.demands.proofs.Arrived.{leaves_all}
+use Rattle.demands.proofs.History.{after_append, small_accepted}
+use Rattle.demands.proofs.Reachable.{stays}
+use Rattle.demands.specs.History.{State, step, after, answers}
 use Rattle.demands.specs.Provenance.{InExactlyOne, StartsPicture, NoneStarts, ByteBrought, AsBrought}
-use Rattle.demands.specs.Reachable.{Reached, stays}
+use Rattle.demands.specs.Reachable.{Reached}
 
 -- After these packets, which came to x: what is held was brought by them. A time stamp has 32 bits.
 record Known (x : State) (packets : List (List ℕ)) (y : State) : Type 0 where

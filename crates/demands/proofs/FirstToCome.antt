@@ -1,7 +1,7 @@
 -- The first of a picture's packets to come begins the picture, whichever it is. Assumes nothing.
-use Rattle.std.specs.Prelude.{ℕ, ◌<◌, Bool, true, false, ◌||◌, List, ◌≡◌, refl, eqb, length, get_or}
 use Rattle.std.proofs.Common.{⊎_elim, sym, ap, ap₂, subst, ◌∙◌, arith, eq-eqb}
 use Rattle.std.proofs.lemmas.List.{length-replicate}
+use Rattle.std.specs.Prelude.{ℕ, ◌<◌, Bool, true, false, ◌||◌, List, ◌≡◌, refl, eqb, length, get_or}
 use Rattle.fragments.specs.Array.{no_fragments, padded}
 use Rattle.fragments.specs.Held.{reached}
 use Rattle.fragments.specs.declared.Fragment.{Fragment}
@@ -15,15 +15,18 @@ use Rattle.state.specs.declared.Receiver.{Receiver}
 use Rattle.wire.specs.Lawful.{Lawful}
 use Rattle.wire.specs.declared.Header.{Header}
 use Rattle.wire.specs.declared.Packet.{Packet}
+use Rattle.demands.proofs.Arrived.{area_lent}
+use Rattle.demands.proofs.CutsIn.{cuts_in_none}
+use Rattle.demands.proofs.Filled.{filled_none}
+use Rattle.demands.proofs.OneMore.{new}
+use Rattle.demands.proofs.Says.{says}
+use Rattle.demands.proofs.Sets.{not_every, none_out}
 use Rattle.demands.specs.Arrivals.{Came}
-use Rattle.demands.specs.Arrived.{Begun, receiver_with, area_with, arrived, Ok, area_lent}
-use Rattle.demands.specs.CutsIn.{cuts_in_none}
+use Rattle.demands.specs.Arrived.{Begun, receiver_with, area_with, arrived, Ok}
 use Rattle.demands.specs.Delivery.{Packets, Awaited}
-use Rattle.demands.specs.Filled.{filled, filled_none}
+use Rattle.demands.specs.Filled.{filled}
 use Rattle.demands.specs.History.{State, state, step}
-use Rattle.demands.specs.OneMore.{new}
-use Rattle.demands.specs.Says.{says}
-use Rattle.demands.specs.Sets.{none, not_every, none_out}
+use Rattle.demands.specs.Sets.{none}
 
 -- What a packet says of a picture's time stamp and header fields alone.
 abbrev of_time : ℕ → Header → Packet

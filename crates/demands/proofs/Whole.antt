@@ -1,6 +1,6 @@
 -- The file of a picture of which every packet has come. Assumes nothing.
-use Rattle.std.specs.Prelude.{ℕ, ◌<◌, Bool, true, List, ◌≡◌, length, take}
 use Rattle.std.proofs.Common.{sym, ap, subst, ◌∙◌, arith}
+use Rattle.std.specs.Prelude.{ℕ, ◌<◌, Bool, true, List, ◌≡◌, length, take}
 use Rattle.builder.specs.Building.{Buildable, frame_for, frame_of, scan_of}
 use Rattle.builder.specs.Built.{WritesFile, whole_built}
 use Rattle.fragments.specs.Array.{held_padded}
@@ -9,11 +9,14 @@ use Rattle.fragments.specs.declared.Fragment.{Fragment}
 use Rattle.head.specs.declared.Frame.{Frame}
 use Rattle.state.specs.WellFormed.{well_formed_lem}
 use Rattle.state.specs.declared.Receiver.{Receiver}
-use Rattle.demands.specs.Arrived.{Begun, receiver_with, area_with, arrived, Ok, area_lent}
-use Rattle.demands.specs.CutsIn.{cuts_in, cuts_in_all, in_order, end_by, whole_in}
+use Rattle.demands.proofs.Arrived.{area_lent}
+use Rattle.demands.proofs.CutsIn.{cuts_in_all, in_order, end_by, whole_in}
+use Rattle.demands.proofs.Filled.{front_filled}
+use Rattle.demands.proofs.Sets.{every_in}
+use Rattle.demands.specs.Arrived.{Begun, receiver_with, area_with, arrived, Ok}
+use Rattle.demands.specs.CutsIn.{cuts_in}
 use Rattle.demands.specs.Delivery.{FileHolds, those_tables}
-use Rattle.demands.specs.Filled.{front_filled}
-use Rattle.demands.specs.Sets.{every, every_in}
+use Rattle.demands.specs.Sets.{every}
 
 module _ (g : Begun) (come : List Bool) (ok : Ok g come) (all : every come ≡ true) (some : 0 < length g.picture.scan) where
   abbrev scan : List ℕ

@@ -1,10 +1,7 @@
 -- One packet more of a picture that a receiver has begun: what it makes of the receiver depends only on which have come. Assumes nothing.
-use Rattle.std.specs.Prelude.{ℕ, ◌<◌, Bool, ◌&&◌, ◌||◌, List, ◌≡◌, length, set}
-use Rattle.std.proofs.Math.Bool.{true, false}
 use Rattle.std.proofs.Common.{sym, ap, ap₂, subst, ◌∙◌, arith, le-ltb, eqb-true, length-set}
 use Rattle.std.proofs.lemmas.Bool.{lt-leb}
-use Rattle.std.proofs.Math.Dec.{eqb}
-use Rattle.std.proofs.Math.ListN.{get_or}
+use Rattle.std.specs.Prelude.{ℕ, ◌<◌, Bool, ◌&&◌, ◌||◌, List, ◌≡◌, length, set, true, false, eqb, get_or}
 use Rattle.fragments.specs.Array.{held_padded}
 use Rattle.fragments.specs.Clash.{clashes, Clear, is_clear}
 use Rattle.fragments.specs.Fragments.{stop, fragment_at, bytes_of}
@@ -17,10 +14,10 @@ use Rattle.kept.specs.Kept.{keep, is_keepable}
 use Rattle.laws.specs.Any.{any, none_any}
 use Rattle.laws.specs.Each.{each_weaken}
 use Rattle.laws.specs.Put.{put}
-use Rattle.laws.specs.Same.{same, same_self}
+use Rattle.laws.specs.Same.{same_self}
 use Rattle.laws.specs.Truth.{split, never_both, and_true, or_true, or_false}
-use Rattle.receiver.specs.FirstPacket.{brings, is_bare, tables_after, kept_after}
-use Rattle.receiver.specs.Laws.{judged_on, when_accepted, keeps_well_formed}
+use Rattle.receiver.specs.FirstPacket.{is_bare, tables_after, kept_after}
+use Rattle.receiver.proofs.Laws.{judged_on, when_accepted, keeps_well_formed}
 use Rattle.receiver.specs.Picture.{picture_for, picture_held}
 use Rattle.receiver.specs.Step.Decision.{leave, accept}
 use Rattle.receiver.specs.Step.{decision, ruled, taken, took_in, received}
@@ -37,14 +34,19 @@ use Rattle.wire.specs.Reading.{reading, scan_in}
 use Rattle.wire.specs.declared.Header.{Header}
 use Rattle.wire.specs.declared.Packet.{Packet}
 use Rattle.wire.specs.declared.Reading.TheVariants as Answer
+use Rattle.demands.proofs.Arrived.{leaves, area_lent, held_cuts}
+use Rattle.demands.proofs.CutsIn.{any_cut, length_cuts_in, cut_inserted, cut_clear, whole_in}
+use Rattle.demands.proofs.Filled.{put_filled, bytes_filled}
+use Rattle.demands.proofs.Says.{says, own_tables, given_own, brings_keepable}
+use Rattle.demands.proofs.Sets.{every_in, in_set, set_in, swapped}
 use Rattle.demands.specs.Arrivals.{reply_to, Came}
-use Rattle.demands.specs.Arrived.{Begun, receiver_with, area_with, arrived, Ok, leaves, area_lent, held_cuts}
-use Rattle.demands.specs.CutsIn.{cuts_in, any_cut, length_cuts_in, cut_inserted, cut_clear, whole_in}
+use Rattle.demands.specs.Arrived.{Begun, receiver_with, area_with, arrived, Ok}
+use Rattle.demands.specs.CutsIn.{cuts_in}
 use Rattle.demands.specs.Delivery.{brings_tables}
-use Rattle.demands.specs.Filled.{filled, put_filled, bytes_filled}
+use Rattle.demands.specs.Filled.{filled}
 use Rattle.demands.specs.History.{state, step}
-use Rattle.demands.specs.Says.{Says, says, own_tables, given_own, brings_keepable}
-use Rattle.demands.specs.Sets.{every, every_in, in_set, set_in, swapped}
+use Rattle.demands.specs.Says.{Says}
+use Rattle.demands.specs.Sets.{every}
 
 module _ (g : Begun) (come : List Bool) (ok : Ok g come) (k : ℕ) (i : k < length g.cuts) where
   abbrev p : Picture
