@@ -1,46 +1,61 @@
 // rebuild SOURCE PREFIX: takes RFC 4571 records from standard input, and writes every picture of that source that becomes whole to
 // PREFIX000001.jpg and so on, as soon as it is whole. At the end it prints the counts that the run is judged by.
+#![tactic(auto)]
+
+mod failure;
 mod picture;
 mod report;
 
 ghost use Rattle.std.specs.Prelude.{◌≤◌, length};
 
-use libc::{STDERR_FILENO, STDIN_FILENO};
 use records::{Next, Taken};
 use replies::WHOLE;
 use state::Receiver;
+use std::env::{Env, FillError};
+use std::io::Read;
 use tally::Tally;
 use text::Said;
 
-fn main() {
-    let mut word = io::buffer();
-    let n = os::arg(1, &mut word);
-    let said = text::number(&word[..n]);
-    let Said::Number(source) = said else {
-        write_usage();
+fn main(rt: HostRuntime) {
+    let mut word = [0u8; 4096];
+    let Ok(n) = rt.arg(1, &mut word) else {
+        write_usage(&rt);
         return;
     };
-    let n = os::arg(2, &mut word);
-    if os::errno() != 0 {
-        write_usage();
+    let Said::Number(source) = text::number(&word[..n]) else {
+        write_usage(&rt);
+        return;
+    };
+    let Ok(n) = rt.arg(2, &mut word) else {
+        write_usage(&rt);
+        return;
+    };
+    if has_third_word(&rt) {
+        write_usage(&rt);
         return;
     }
-    if os::arg_count() != 3 {
-        write_usage();
-        return;
-    }
-    run(source, &word[..n]);
+    run(&rt, source, &word[..n]);
 }
 
-fn write_usage() {
-    io::write_all(
-        STDERR_FILENO,
-        b"usage: rebuild SOURCE PREFIX <RECORDS, where SOURCE is a number below 2^32, in decimal or in hexadecimal behind 0x\n",
+fn has_third_word(rt: &impl Env) -> bool {
+    let mut none = [0u8; 1];
+    match rt.arg(3, &mut none) {
+        Err(FillError::NotPresent) => false,
+        _ => true,
+    }
+}
+
+// What cannot be printed is passed over, here and in the report: there is nobody else to tell.
+fn write_usage(rt: &impl Eprint) {
+    let _ = eprintln!(rt;
+        "usage: rebuild SOURCE PREFIX <RECORDS, where SOURCE is a number below 2^32, in decimal or in hexadecimal behind 0x"
     );
 }
 
 // Packet by packet to the end of the records.
-fn run(source: u32, prefix: &[u8]) {
+fn run(rt: &HostRuntime, source: u32, prefix: &[u8]) {
+    let mut input = rt.stdin();
+    let errors = rt.stderr();
     let mut area = [0u8; 65536];
     let mut buffer = [0u8; 65537];
     let opened = state::open(source, 65536);
@@ -50,10 +65,9 @@ fn run(source: u32, prefix: &[u8]) {
     // A proved loop ends, and nothing says that the input does: no run comes to so many records.
     let mut count: u64 = 0;
     while count < u64::MAX {
-        let taken = take_next(receiver, &mut area, &mut buffer);
-        let came = taken.came;
-        let Next::Answered(answer) = came else {
-            report::write(tally::close(tally, receiver), came, not_written);
+        let taken = take_next(&mut input, receiver, &mut area, &mut buffer);
+        let Next::Answered(answer) = taken.came else {
+            report::write(rt, tally::close(tally, receiver), taken.came, not_written);
             break;
         };
         let next = taken.receiver;
@@ -61,33 +75,32 @@ fn run(source: u32, prefix: &[u8]) {
         receiver = next;
         count += 1;
         if answer.reply == WHOLE {
-            if !picture::save(receiver, &area, prefix, wholes(tally)) {
+            if !picture::save(rt, &errors, receiver, &area, prefix, wholes(tally)) {
                 not_written += 1;
             }
         }
     }
-    report_read_error();
+    report_read_error(&mut input, &errors);
 }
 
 // The pictures that have become whole: each is answered so once.
 fn wholes(tally: Tally) -> u64 {
-    let replies = tally.replies;
-    replies[WHOLE as usize]
+    tally.replies[WHOLE as usize]
 }
 
-fn take_next(receiver: Receiver, area: &mut [u8], buffer: &mut [u8]) -> Taken
+fn take_next(input: &mut impl Read, receiver: Receiver, area: &mut [u8], buffer: &mut [u8]) -> Taken
     requires { 2 ≤ length buffer.old }
 {
-    let n = read_record(buffer);
+    let n = read_record(input, buffer);
     records::take(receiver, area, &buffer[0..n])
 }
 
 // Reads the next record to the front of the buffer, and answers how many bytes came.
-fn read_record(buffer: &mut [u8]) -> usize
+fn read_record(input: &mut impl Read, buffer: &mut [u8]) -> usize
     requires { 2 ≤ length buffer.old }
     ensures { result ≤ length buffer.new }
 {
-    let begun = io::read_full(STDIN_FILENO, &mut buffer[0..2]);
+    let begun = read_full(input, &mut buffer[0..2]);
     let end = records::length(&buffer[0..begun]);
     // The length is not all there, or it is 0: there is no more to read.
     if end <= 2 {
@@ -97,13 +110,28 @@ fn read_record(buffer: &mut [u8]) -> usize
     if buffer.len() < end {
         return begun;
     }
-    begun + io::read_full(STDIN_FILENO, &mut buffer[begun..end])
+    begun + read_full(input, &mut buffer[begun..end])
+}
+
+// Reads until the buffer is full, the input ends or a read fails, and answers how many bytes came.
+fn read_full(input: &mut impl Read, buffer: &mut [u8]) -> usize
+    ensures { result ≤ length buffer.new }
+{
+    let mut done = 0;
+    while done < buffer.len() {
+        match input.read(&mut buffer[done..]) {
+            Ok(0) => break,
+            Ok(n) => done += n,
+            Err(_) => break,
+        }
+    }
+    done
 }
 
 // A read that fails is an end like any other for `take_next`: one more read tells.
-fn report_read_error() {
+fn report_read_error(input: &mut impl Read, errors: &impl Print) {
     let mut byte = [0u8; 1];
-    if libc::read(STDIN_FILENO, &mut byte) < 0 {
-        os::fail(b"standard input");
+    if let Err(error) = input.read(&mut byte) {
+        failure::say(errors, b"standard input", error);
     }
 }

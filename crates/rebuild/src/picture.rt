@@ -1,10 +1,24 @@
 // The file of a whole picture.
-use libc::STDERR_FILENO;
+use crate::failure;
 use replies::SUCCESS;
 use state::Receiver;
+use std::fs::{File, OpenFile};
+use std::io::{ErrorKind, Write};
+use std::rt::Files;
+use std::{fs, io};
+
+// Linux's number for bytes that are no text.
+const NOT_TEXT: i32 = 84;
 
 // Writes the receiver's picture to the file of this number, or says why that cannot be done and answers false.
-pub(crate) fn save(receiver: Receiver, area: &[u8], prefix: &[u8], number: u64) -> bool {
+pub(crate) fn save(
+    files: &impl Files,
+    errors: &impl Print,
+    receiver: Receiver,
+    area: &[u8],
+    prefix: &[u8],
+    number: u64,
+) -> bool {
     let mut file = [0u8; 66149];
     let built = builder::build(receiver, area, &mut file);
     // The longest prefix, the most digits, and both endings.
@@ -14,41 +28,49 @@ pub(crate) fn save(receiver: Receiver, area: &[u8], prefix: &[u8], number: u64) 
     let part = slices::part(&name, 0, length + 5);
     let name = slices::part(&name, 0, length);
     // Always so: the picture is whole, and there is room for the longest file.
-    if built.reply == SUCCESS {
-        if put_whole(name, part, slices::part(&file, 0, built.length as usize)) {
-            return true;
-        }
+    let written = if built.reply == SUCCESS {
+        put_whole(
+            files,
+            name,
+            part,
+            slices::part(&file, 0, built.length as usize),
+        )
+    } else {
+        Err(io::Error::from(ErrorKind::InvalidData))
+    };
+    if let Err(error) = written {
+        let _ = errors.write_all(b"not written: ");
+        failure::say(errors, name, error);
+        remove(files, part);
+        return false;
     }
-    io::write_all(STDERR_FILENO, b"not written: ");
-    os::fail(name);
-    os::unlink(part);
-    false
+    true
 }
 
 // A file has its name once all of it is there, so that no viewer shows a part of one.
-fn put_whole(name: &[u8], part: &[u8], bytes: &[u8]) -> bool {
-    if !put(part, bytes) {
-        return false;
-    }
-    os::rename(part, name) == 0
-}
-
-fn put(name: &[u8], bytes: &[u8]) -> bool {
-    let file = os::open_overwrite(name);
-    if file < 0 {
-        return false;
-    }
-    if !write_through(file, bytes) {
-        libc::close(file);
-        return false;
-    }
-    libc::close(file) == 0
+fn put_whole(files: &impl Files, name: &[u8], part: &[u8], bytes: &[u8]) -> io::Result<()> {
+    let part = path(part)?;
+    put(files, part, bytes)?;
+    fs::rename(files, part, path(name)?)
 }
 
 // Up to the disk: behind a power cut too, a file that has its name has its end.
-fn write_through(file: i32, bytes: &[u8]) -> bool {
-    if !io::write_all(file, bytes) {
-        return false;
+fn put(files: &impl Files, name: &str, bytes: &[u8]) -> io::Result<()> {
+    let mut file = File::create(files, name)?;
+    file.write_all(bytes)?;
+    file.sync_all()
+}
+
+fn remove(files: &impl Files, name: &[u8]) {
+    if let Ok(name) = path(name) {
+        let _ = fs::remove_file(files, name);
     }
-    libc::fsync(file) == 0
+}
+
+// The standard library's paths are text in UTF-8, and a prefix may be any bytes.
+fn path(name: &[u8]) -> io::Result<&str> {
+    match str::from_utf8(name) {
+        Ok(text) => Ok(text),
+        Err(_) => Err(io::Error::from_raw_os_error(NOT_TEXT)),
+    }
 }

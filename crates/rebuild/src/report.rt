@@ -1,27 +1,25 @@
 // What a run came to, for people to read.
 use crate::wholes;
-use libc::STDOUT_FILENO;
 use records::Next;
 use replies::AGAIN;
 use tally::Tally;
 
-pub(crate) fn write(tally: Tally, came: Next, not_written: u64) {
-    let replies = tally.replies;
-    write_count(b"packets read", tally.read);
-    write_count(b"cut short at the end", is_cut(came));
-    write_count(b"accepted", tally::accepted(tally));
-    write_count(b"repeated", replies[AGAIN as usize]);
-    write_refusals(replies);
-    write_count(b"pictures whole", wholes(tally));
-    write_count(b"pictures given up unfinished", tally.given_up);
-    write_count(b"files not written", not_written);
+pub(crate) fn write(rt: &impl Print, tally: Tally, came: Next, not_written: u64) {
+    write_count(rt, "packets read", tally.read);
+    write_count(rt, "cut short at the end", is_cut(came));
+    write_count(rt, "accepted", tally::accepted(tally));
+    write_count(rt, "repeated", tally.replies[AGAIN as usize]);
+    write_refusals(rt, tally.replies);
+    write_count(rt, "pictures whole", wholes(tally));
+    write_count(rt, "pictures given up unfinished", tally.given_up);
+    write_count(rt, "files not written", not_written);
 }
 
 // A line for each refusal that occurred, in the order of the numbers.
-fn write_refusals(replies: [u64; 32]) {
+fn write_refusals(rt: &impl Print, replies: [u64; 32]) {
     for reply in 3..32 {
         if replies[reply] != 0 {
-            write_refusal(reply as u32, replies[reply]);
+            write_refusal(rt, reply as u32, replies[reply]);
         }
     }
 }
@@ -30,47 +28,37 @@ fn is_cut(came: Next) -> u64 {
     if let Next::Cut = came { 1 } else { 0 }
 }
 
-fn write_count(what: &[u8], count: u64) {
-    say(what);
-    say(b": ");
-    io::print_decimal(STDOUT_FILENO, count);
-    say(b"\n");
+fn write_count(rt: &impl Print, what: &str, count: u64) {
+    let _ = println!(rt; "{what}: {count}");
 }
 
-fn write_refusal(reply: u32, count: u64) {
-    say(b"refused ");
-    io::print_decimal(STDOUT_FILENO, reply as u64);
-    say(b" (");
-    say_why(reply);
-    write_count(b")", count);
+fn write_refusal(rt: &impl Print, reply: u32, count: u64) {
+    let why = why(reply);
+    let _ = println!(rt; "refused {reply} ({why}): {count}");
 }
 
-fn say(text: &[u8]) {
-    io::write_all(STDOUT_FILENO, text);
-}
-
-fn say_why(reply: u32) {
+fn why(reply: u32) -> &'static str {
     match reply {
-        replies::AREA_NOT_ROOM => say(b"area not as long as the room"),
-        replies::NOT_WELL_FORMED => say(b"receiver not well formed"),
-        replies::TOO_SHORT => say(b"too short, or wrongly padded"),
-        replies::TOO_LONG => say(b"over 2,048 bytes"),
-        replies::OTHER_VERSION => say(b"RTP version not 2"),
-        replies::OTHER_PAYLOAD => say(b"payload type not JPEG's"),
-        replies::OTHER_SOURCE => say(b"another source"),
-        replies::OTHER_TYPE => say(b"type not carried"),
-        replies::OTHER_TYPE_SPECIFIC => say(b"type-specific byte not 0"),
-        replies::Q_RESERVED => say(b"reserved Q"),
-        replies::SIDE_ZERO => say(b"width or height 0"),
-        replies::INTERVAL_ZERO => say(b"restart interval 0"),
-        replies::TABLE_RULE => say(b"table rule broken"),
-        replies::NO_SCAN => say(b"no scan data"),
-        replies::PAST => say(b"picture past, or whole already"),
-        replies::UNLIKE => say(b"unlike its picture"),
-        replies::BEYOND => say(b"beyond the room"),
-        replies::CLASH => say(b"clash with what is held"),
-        replies::FULL => say(b"64 fragments held"),
-        replies::BARE => say(b"no tables for its Q"),
-        _ => say(b"no reply of a receiver"),
+        replies::AREA_NOT_ROOM => "area not as long as the room",
+        replies::NOT_WELL_FORMED => "receiver not well formed",
+        replies::TOO_SHORT => "too short, or wrongly padded",
+        replies::TOO_LONG => "over 2,048 bytes",
+        replies::OTHER_VERSION => "RTP version not 2",
+        replies::OTHER_PAYLOAD => "payload type not JPEG's",
+        replies::OTHER_SOURCE => "another source",
+        replies::OTHER_TYPE => "type not carried",
+        replies::OTHER_TYPE_SPECIFIC => "type-specific byte not 0",
+        replies::Q_RESERVED => "reserved Q",
+        replies::SIDE_ZERO => "width or height 0",
+        replies::INTERVAL_ZERO => "restart interval 0",
+        replies::TABLE_RULE => "table rule broken",
+        replies::NO_SCAN => "no scan data",
+        replies::PAST => "picture past, or whole already",
+        replies::UNLIKE => "unlike its picture",
+        replies::BEYOND => "beyond the room",
+        replies::CLASH => "clash with what is held",
+        replies::FULL => "64 fragments held",
+        replies::BARE => "no tables for its Q",
+        _ => "no reply of a receiver",
     }
 }

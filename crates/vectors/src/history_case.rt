@@ -8,14 +8,14 @@ use kept::Kept;
 use state::Receiver;
 
 // The session's area is the front of the one that is lent to each line.
-#[derive(Drop)]
+#[derive(Clone, Copy, Drop)]
 pub(crate) struct Session {
     pub(crate) receiver: Receiver,
     pub(crate) length: usize,
 }
 
 // The session behind a line, which is as it was where the line is no case.
-#[derive(Drop)]
+#[derive(Clone, Copy, Drop)]
 pub(crate) struct Ran {
     pub(crate) session: Session,
     pub(crate) is_case: bool,
@@ -38,8 +38,8 @@ pub(crate) fn first() -> Session {
     }
 }
 
-pub(crate) fn run(line: &[u8], session: Session, area: &mut [u8]) -> Ran {
-    let begun = begin(line, session, area);
+pub(crate) fn run(rt: &impl Print, line: &[u8], session: Session, area: &mut [u8]) -> Ran {
+    let begun = begin(rt, line, session, area);
     if begun.is_case {
         return begun;
     }
@@ -53,15 +53,15 @@ pub(crate) fn run(line: &[u8], session: Session, area: &mut [u8]) -> Ran {
         return unchanged(session);
     }
     if begins(line, b"take") {
-        return take(line, session, &mut area[0..length]);
+        return take(rt, line, session, &mut area[0..length]);
     }
     let receiver = session.receiver;
-    let is_case = show(line, receiver, &area[0..length])
-        || file_case::run(line, receiver, &area[0..length]);
+    let is_case = show(rt, line, receiver, &area[0..length])
+        || file_case::run(rt, line, receiver, &area[0..length]);
     Ran { session, is_case }
 }
 
-fn begin(line: &[u8], session: Session, area: &mut [u8]) -> Ran {
+fn begin(rt: &impl Print, line: &[u8], session: Session, area: &mut [u8]) -> Ran {
     let mut n = [0u32; 3];
     if !reads_as(line, b"begin", &mut n) {
         return unchanged(session);
@@ -70,8 +70,8 @@ fn begin(line: &[u8], session: Session, area: &mut [u8]) -> Ran {
     let receiver = opened.receiver;
     let ran = start(session, receiver, n[2], area);
     if ran.is_case {
-        write_number(opened.answer.reply as u64);
-        write_number(opened.answer.held as u64);
+        write_number(rt, opened.answer.reply as u64);
+        write_number(rt, opened.answer.held as u64);
     }
     ran
 }
@@ -100,7 +100,7 @@ fn start(session: Session, receiver: Receiver, length: u32, area: &mut [u8]) -> 
     }
 }
 
-fn take(line: &[u8], session: Session, area: &mut [u8]) -> Ran {
+fn take(rt: &impl Print, line: &[u8], session: Session, area: &mut [u8]) -> Ran {
     let mut buffer = [0u8; 65536];
     let bytes = read_hex(line, 4, &mut buffer);
     let n = bytes.length;
@@ -109,8 +109,8 @@ fn take(line: &[u8], session: Session, area: &mut [u8]) -> Ran {
     }
     let receiver = session.receiver;
     let received = receiver::receive(receiver, area, &buffer[0..n]);
-    write_number(received.answer.reply as u64);
-    write_number(received.answer.held as u64);
+    write_number(rt, received.answer.reply as u64);
+    write_number(rt, received.answer.held as u64);
     let receiver = received.receiver;
     let session = Session {
         receiver,
@@ -123,41 +123,41 @@ fn take(line: &[u8], session: Session, area: &mut [u8]) -> Ran {
 }
 
 // Whether the line asks for a part of the session, and there is that part.
-fn show(line: &[u8], receiver: Receiver, area: &[u8]) -> bool {
-    if check::same(line, b"shown") {
-        write_receiver(receiver);
+fn show(rt: &impl Print, line: &[u8], receiver: Receiver, area: &[u8]) -> bool {
+    if slices::are_same(line, b"shown") {
+        write_receiver(rt, receiver);
         return true;
     }
     let mut n = [0u32; 2];
     if reads_as(line, b"pieces", &mut n) {
         let fragments = receiver.fragments;
-        return write_fragments(fragments, n[0], n[1]);
+        return write_fragments(rt, fragments, n[0], n[1]);
     }
     if reads_as(line, b"entries", &mut n) {
         let tables = receiver.tables;
-        return write_entries(tables, n[0], n[1]);
+        return write_entries(rt, tables, n[0], n[1]);
     }
     if reads_as(line, b"store", &mut n) {
         let kept = receiver.kept;
-        return write_store(kept, n[0], n[1]);
+        return write_store(rt, kept, n[0], n[1]);
     }
     if reads_as(line, b"area", &mut n) {
-        return write_places(area, n[0], n[1]);
+        return write_places(rt, area, n[0], n[1]);
     }
     false
 }
 
 // Nothing is written where the store has not so many bytes.
-fn write_store(kept: Kept, from: u32, count: u32) -> bool {
+fn write_store(rt: &impl Print, kept: Kept, from: u32, count: u32) -> bool {
     if 128 < from as u64 + count as u64 {
         return false;
     }
-    write_number(kept.q as u64);
+    write_number(rt, kept.q as u64);
     let tables = kept.tables;
-    write_entries(tables, from, count)
+    write_entries(rt, tables, from, count)
 }
 
 // By value: the prover knows how long an array is that is a parameter, and not one that is a field.
-fn write_entries(tables: [u8; 128], from: u32, count: u32) -> bool {
-    write_places(&tables, from, count)
+fn write_entries(rt: &impl Print, tables: [u8; 128], from: u32, count: u32) -> bool {
+    write_places(rt, &tables, from, count)
 }

@@ -4,7 +4,7 @@ use crate::hex::read_hex;
 use crate::text::{Number, begins, next_number, write_bytes, write_number};
 use wire::{Packet, Reading};
 
-#[derive(Drop)]
+#[derive(Clone, Copy, Drop)]
 enum Shown {
     Fields,
     Tables,
@@ -12,20 +12,20 @@ enum Shown {
 }
 
 // Whether the line is such a case.
-pub(crate) fn run(line: &[u8]) -> bool {
+pub(crate) fn run(rt: &impl Print, line: &[u8]) -> bool {
     if begins(line, b"packet") {
-        return read(line, 6, Shown::Fields);
+        return read(rt, line, 6, Shown::Fields);
     }
     if begins(line, b"brought") {
-        return read(line, 7, Shown::Tables);
+        return read(rt, line, 7, Shown::Tables);
     }
     if begins(line, b"scan") {
-        return read(line, 4, Shown::Scan);
+        return read(rt, line, 4, Shown::Scan);
     }
     false
 }
 
-fn read(line: &[u8], at: usize, shown: Shown) -> bool {
+fn read(rt: &impl Print, line: &[u8], at: usize, shown: Shown) -> bool {
     let Number::Of(source, behind) = next_number(line, at) else {
         return false;
     };
@@ -35,40 +35,40 @@ fn read(line: &[u8], at: usize, shown: Shown) -> bool {
     if !bytes.whole {
         return false;
     }
-    show(source, &buffer[0..n], shown);
+    show(rt, source, &buffer[0..n], shown);
     true
 }
 
-fn show(source: u32, packet: &[u8], shown: Shown) {
+fn show(rt: &impl Print, source: u32, packet: &[u8], shown: Shown) {
     match wire::read(source, packet) {
-        Reading::Refused(number) => write_number(number as u64),
+        Reading::Refused(number) => write_number(rt, number as u64),
         Reading::Said(said) => {
-            write_number(0);
+            write_number(rt, 0);
             match shown {
-                Shown::Fields => write_fields(said),
-                Shown::Tables => write_bytes(&wire::tables(packet, said)),
-                Shown::Scan => write_bytes(wire::scan(packet, said)),
+                Shown::Fields => write_fields(rt, said),
+                Shown::Tables => write_bytes(rt, &wire::tables(packet, said)),
+                Shown::Scan => write_bytes(rt, wire::scan(packet, said)),
             }
         }
     }
 }
 
-fn write_fields(said: Packet) {
-    write_number(said.marker as u64);
-    write_number(said.time as u64);
-    write_number(said.offset as u64);
-    write_number(said.header.kind as u64);
-    write_number(said.header.q as u64);
-    write_number(said.header.width as u64);
-    write_number(said.header.height as u64);
-    write_number(said.header.interval as u64);
+fn write_fields(rt: &impl Print, said: Packet) {
+    write_number(rt, said.marker as u64);
+    write_number(rt, said.time as u64);
+    write_number(rt, said.offset as u64);
+    write_number(rt, said.header.kind as u64);
+    write_number(rt, said.header.q as u64);
+    write_number(rt, said.header.width as u64);
+    write_number(rt, said.header.height as u64);
+    write_number(rt, said.header.interval as u64);
     if said.tables.length == 0 {
-        write_number(0);
-        write_number(0);
+        write_number(rt, 0);
+        write_number(rt, 0);
     } else {
-        write_number(1);
-        write_number(said.tables.at as u64);
+        write_number(rt, 1);
+        write_number(rt, said.tables.at as u64);
     }
-    write_number(said.scan.at as u64);
-    write_number(said.scan.length as u64);
+    write_number(rt, said.scan.at as u64);
+    write_number(rt, said.scan.length as u64);
 }

@@ -11,7 +11,7 @@ use wire::Header;
 const WORD: usize = 4;
 
 // Whether the line is such a case.
-pub(crate) fn run(line: &[u8]) -> bool {
+pub(crate) fn run(rt: &impl Print, line: &[u8]) -> bool {
     if !begins(line, b"sent") {
         return false;
     }
@@ -29,11 +29,11 @@ pub(crate) fn run(line: &[u8]) -> bool {
     if line[slash - 1] != b' ' {
         return false;
     }
-    read(numbers, &line[0..slash - 1], behind, &line[slash + 1..])
+    read(rt, numbers, &line[0..slash - 1], behind, &line[slash + 1..])
 }
 
 // The tables stand at the end of what is before the slash, the scan behind it.
-fn read(numbers: [u32; 13], before: &[u8], at: usize, after: &[u8]) -> bool {
+fn read(rt: &impl Print, numbers: [u32; 13], before: &[u8], at: usize, after: &[u8]) -> bool {
     let mut tables = [0u8; 256];
     let t = read_hex(before, at, &mut tables);
     let mut scan = [0u8; 70000];
@@ -46,10 +46,15 @@ fn read(numbers: [u32; 13], before: &[u8], at: usize, after: &[u8]) -> bool {
     }
     let tables_length = t.length;
     let scan_length = s.length;
-    show(numbers, &tables[0..tables_length], &scan[0..scan_length])
+    show(
+        rt,
+        numbers,
+        &tables[0..tables_length],
+        &scan[0..scan_length],
+    )
 }
 
-fn show(n: [u32; 13], tables: &[u8], scan: &[u8]) -> bool {
+fn show(rt: &impl Print, n: [u32; 13], tables: &[u8], scan: &[u8]) -> bool {
     if 65535 < n[6] {
         return false;
     }
@@ -59,10 +64,17 @@ fn show(n: [u32; 13], tables: &[u8], scan: &[u8]) -> bool {
     let start = n[6] as u16;
     let length = n[10] as usize;
     let mut out = [7u8; 4096];
-    send(n, start, tables, scan, &mut out[0..length])
+    send(rt, n, start, tables, scan, &mut out[0..length])
 }
 
-fn send(n: [u32; 13], start: u16, tables: &[u8], scan: &[u8], out: &mut [u8]) -> bool {
+fn send(
+    rt: &impl Print,
+    n: [u32; 13],
+    start: u16,
+    tables: &[u8],
+    scan: &[u8],
+    out: &mut [u8],
+) -> bool {
     let header = Header {
         kind: n[0],
         q: n[1],
@@ -76,5 +88,5 @@ fn send(n: [u32; 13], start: u16, tables: &[u8], scan: &[u8], out: &mut [u8]) ->
         source: n[8],
     };
     let w = sender::packet(header, tables, scan, n[5], stamp, n[9], out);
-    write_part(w, out, n[11] as usize, n[12] as usize)
+    write_part(rt, w, out, n[11] as usize, n[12] as usize)
 }

@@ -10,52 +10,60 @@ use kept::Kept;
 use state::{Inspected, Receiver};
 
 // Whether the line is such a case.
-pub(crate) fn run(line: &[u8]) -> bool {
-    open(line) || formed(line) || placed(line) || insert(line) || found(line) || keep(line)
+pub(crate) fn run(rt: &impl Print, line: &[u8]) -> bool {
+    open(rt, line)
+        || formed(rt, line)
+        || placed(rt, line)
+        || insert(rt, line)
+        || found(rt, line)
+        || keep(rt, line)
 }
 
-fn open(line: &[u8]) -> bool {
+fn open(rt: &impl Print, line: &[u8]) -> bool {
     let mut n = [0u32; 2];
     if !reads_as(line, b"open", &mut n) {
         return false;
     }
-    write_opened(n)
+    write_opened(rt, n)
 }
 
-fn write_opened(n: [u32; 2]) -> bool {
+fn write_opened(rt: &impl Print, n: [u32; 2]) -> bool {
     let opened = state::open(n[0], n[1]);
-    write_number(opened.answer.reply as u64);
-    write_number(opened.answer.held as u64);
+    write_number(rt, opened.answer.reply as u64);
+    write_number(rt, opened.answer.held as u64);
     let receiver = opened.receiver;
-    write_receiver(receiver);
+    write_receiver(rt, receiver);
     true
 }
 
 // The 12 numbers, and how many of the others are not 0.
-pub(crate) fn write_receiver(r: Receiver) {
-    write_number(r.source as u64);
-    write_number(r.room as u64);
-    write_number(r.picture as u64);
-    write_number(r.time as u64);
-    write_header(r);
-    write_number(r.end as u64);
-    write_number(r.whole as u64);
-    write_number(r.fragment_count as u64);
+pub(crate) fn write_receiver(rt: &impl Print, r: Receiver) {
+    write_number(rt, r.source as u64);
+    write_number(rt, r.room as u64);
+    write_number(rt, r.picture as u64);
+    write_number(rt, r.time as u64);
+    write_header(rt, r);
+    write_number(rt, r.end as u64);
+    write_number(rt, r.whole as u64);
+    write_number(rt, r.fragment_count as u64);
     let fragments = r.fragments;
     let tables = r.tables;
     let kept = r.kept;
-    write_number(used_numbers(fragments) + used_bytes(tables) + used_in(kept));
+    write_number(
+        rt,
+        used_numbers(fragments) + used_bytes(tables) + used_in(kept),
+    );
 }
 
-fn write_header(r: Receiver) {
-    write_number(r.kind as u64);
-    write_number(r.q as u64);
-    write_number(r.width as u64);
-    write_number(r.height as u64);
-    write_number(r.interval as u64);
+fn write_header(rt: &impl Print, r: Receiver) {
+    write_number(rt, r.kind as u64);
+    write_number(rt, r.q as u64);
+    write_number(rt, r.width as u64);
+    write_number(rt, r.height as u64);
+    write_number(rt, r.interval as u64);
 }
 
-fn formed(line: &[u8]) -> bool {
+fn formed(rt: &impl Print, line: &[u8]) -> bool {
     if !begins(line, b"formed") {
         return false;
     }
@@ -65,8 +73,8 @@ fn formed(line: &[u8]) -> bool {
     }
     let receiver = given.receiver;
     match state::inspect(receiver) {
-        Inspected::Holds(_, _) => write_number(1),
-        Inspected::NotWellFormed => write_number(0),
+        Inspected::Holds(_, _) => write_number(rt, 1),
+        Inspected::NotWellFormed => write_number(rt, 0),
     }
     true
 }
@@ -82,17 +90,17 @@ pub(crate) fn given(line: &[u8], word: &[u8], numbers: &mut [u32]) -> MadeUp {
     made_up::read(line, behind)
 }
 
-fn placed(line: &[u8]) -> bool {
+fn placed(rt: &impl Print, line: &[u8]) -> bool {
     let mut n = [0u32; 3];
     let given = given(line, b"placed", &mut n);
     if !given.complete {
         return false;
     }
     let receiver = given.receiver;
-    write_place(receiver, n)
+    write_place(rt, receiver, n)
 }
 
-fn write_place(r: Receiver, n: [u32; 3]) -> bool {
+fn write_place(rt: &impl Print, r: Receiver, n: [u32; 3]) -> bool {
     let f = Fragment {
         offset: n[0],
         length: n[1],
@@ -100,25 +108,25 @@ fn write_place(r: Receiver, n: [u32; 3]) -> bool {
     };
     let fragments = r.fragments;
     let p = fragments::place(fragments, r.fragment_count, f);
-    write_number(p.at as u64);
-    write_flag(p.shares);
-    write_flag(p.same);
+    write_number(rt, p.at as u64);
+    write_flag(rt, p.shares);
+    write_flag(rt, p.same);
     let s = fragments::survey(fragments, r.fragment_count);
-    write_number(s.bytes);
+    write_number(rt, s.bytes);
     true
 }
 
-fn insert(line: &[u8]) -> bool {
+fn insert(rt: &impl Print, line: &[u8]) -> bool {
     let mut n = [0u32; 6];
     let given = given(line, b"insert", &mut n);
     if !given.complete {
         return false;
     }
     let receiver = given.receiver;
-    write_inserted(receiver, n)
+    write_inserted(rt, receiver, n)
 }
 
-fn write_inserted(r: Receiver, n: [u32; 6]) -> bool {
+fn write_inserted(rt: &impl Print, r: Receiver, n: [u32; 6]) -> bool {
     let f = Fragment {
         offset: n[1],
         length: n[2],
@@ -126,29 +134,34 @@ fn write_inserted(r: Receiver, n: [u32; 6]) -> bool {
     };
     let fragments = r.fragments;
     let after = fragments::insert(fragments, r.fragment_count, n[0] as usize, f);
-    write_fragments(after, n[4], n[5])
+    write_fragments(rt, after, n[4], n[5])
 }
 
 // So many fragments from a place on; whether there are so many places.
-pub(crate) fn write_fragments(fragments: [Fragment; 64], from: u32, count: u32) -> bool {
+pub(crate) fn write_fragments(
+    rt: &impl Print,
+    fragments: [Fragment; 64],
+    from: u32,
+    count: u32,
+) -> bool {
     let from = from as usize;
     let to = from + count as usize;
     if 64 < to {
         return false;
     }
     for i in from..to {
-        write_fragment(fragments[i]);
+        write_fragment(rt, fragments[i]);
     }
     true
 }
 
-fn write_fragment(f: Fragment) {
-    write_number(f.offset as u64);
-    write_number(f.length as u64);
-    write_number(f.marker as u64);
+fn write_fragment(rt: &impl Print, f: Fragment) {
+    write_number(rt, f.offset as u64);
+    write_number(rt, f.length as u64);
+    write_number(rt, f.marker as u64);
 }
 
-fn found(line: &[u8]) -> bool {
+fn found(rt: &impl Print, line: &[u8]) -> bool {
     let mut n = [0u32; 1];
     let given = given(line, b"found", &mut n);
     if !given.complete {
@@ -156,10 +169,10 @@ fn found(line: &[u8]) -> bool {
     }
     let receiver = given.receiver;
     let kept = receiver.kept;
-    write_found(kept, n[0])
+    write_found(rt, kept, n[0])
 }
 
-fn keep(line: &[u8]) -> bool {
+fn keep(rt: &impl Print, line: &[u8]) -> bool {
     let mut n = [0u32; 3];
     let given = given(line, b"keep", &mut n);
     if !given.complete {
@@ -169,20 +182,20 @@ fn keep(line: &[u8]) -> bool {
     let kept = receiver.kept;
     let byte = (n[1] % 256) as u8;
     let after = kept::keep(kept, n[0], [byte; 128]);
-    write_found(after, n[2])
+    write_found(rt, after, n[2])
 }
 
-fn write_found(kept: Kept, q: u32) -> bool {
-    write_flag(kept::has(kept, q));
+fn write_found(rt: &impl Print, kept: Kept, q: u32) -> bool {
+    write_flag(rt, kept::has(kept, q));
     let tables = kept::find(kept, q);
-    write_number(used_bytes(tables));
-    write_number(tables[0] as u64);
-    write_number(tables[127] as u64);
+    write_number(rt, used_bytes(tables));
+    write_number(rt, tables[0] as u64);
+    write_number(rt, tables[127] as u64);
     true
 }
 
-fn write_flag(b: bool) {
-    write_number(if b { 1 } else { 0 });
+fn write_flag(rt: &impl Print, b: bool) {
+    write_number(rt, if b { 1 } else { 0 });
 }
 
 // How many are not 0.

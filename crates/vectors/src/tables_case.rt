@@ -4,24 +4,24 @@ use crate::text::reads_as;
 use crate::written::write_part;
 
 // Whether the line is such a case.
-pub(crate) fn run(line: &[u8]) -> bool {
+pub(crate) fn run(rt: &impl Print, line: &[u8]) -> bool {
     let mut n = [0u32; 4];
     if !reads_as(line, b"tables", &mut n) {
         return false;
     }
-    show(n)
+    show(rt, n)
 }
 
-fn show(n: [u32; 4]) -> bool {
+fn show(rt: &impl Print, n: [u32; 4]) -> bool {
     if 4096 < n[1] {
         return false;
     }
     let length = n[1] as usize;
     let mut out = [7u8; 4096];
-    make(n, &mut out[0..length])
+    make(rt, n, &mut out[0..length])
 }
 
-fn make(n: [u32; 4], out: &mut [u8]) -> bool {
+fn make(rt: &impl Print, n: [u32; 4], out: &mut [u8]) -> bool {
     let w = tables::make_tables(n[0], out);
-    write_part(w, out, n[2] as usize, n[3] as usize)
+    write_part(rt, w, out, n[2] as usize, n[3] as usize)
 }

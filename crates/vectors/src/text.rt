@@ -1,21 +1,21 @@
 // Lines of text and the numbers in them.
 ghost use Rattle.std.specs.Prelude.{◌≤◌, length};
 
-use libc::{STDIN_FILENO, STDOUT_FILENO};
+use std::io::Read;
 
-#[derive(Drop)]
+#[derive(Clone, Copy, Drop)]
 pub(crate) struct Line {
     pub(crate) length: usize,
     pub(crate) ended: bool,
 }
 
-// The next line of standard input, without its end. One that is longer than the buffer is read as several.
-pub(crate) fn read_line(buffer: &mut [u8]) -> Line
+// The next line of the input, without its end. One that is longer than the buffer is read as several.
+pub(crate) fn read_line(input: &mut impl Read, buffer: &mut [u8]) -> Line
     ensures { result.length ≤ length buffer.new }
 {
     let mut n = 0;
     while n < buffer.len() {
-        let Byte::Of(b) = read_byte() else {
+        let Byte::Of(b) = read_byte(input) else {
             return Line {
                 length: n,
                 ended: n == 0,
@@ -33,18 +33,18 @@ pub(crate) fn read_line(buffer: &mut [u8]) -> Line
     }
 }
 
-#[derive(Drop)]
+#[derive(Clone, Copy, Drop)]
 enum Byte {
     Of(u8),
     End,
 }
 
-fn read_byte() -> Byte {
+fn read_byte(input: &mut impl Read) -> Byte {
     let mut byte = [0u8; 1];
-    if libc::read(STDIN_FILENO, &mut byte) < 1 {
-        return Byte::End;
+    match input.read(&mut byte) {
+        Ok(1) => Byte::Of(byte[0]),
+        _ => Byte::End,
     }
-    Byte::Of(byte[0])
 }
 
 pub(crate) fn begins(line: &[u8], word: &[u8]) -> bool {
@@ -52,10 +52,10 @@ pub(crate) fn begins(line: &[u8], word: &[u8]) -> bool {
         return false;
     }
     let n = word.len();
-    check::same(&line[0..n], word)
+    slices::are_same(&line[0..n], word)
 }
 
-#[derive(Drop)]
+#[derive(Clone, Copy, Drop)]
 pub(crate) enum Number {
     // a number of 32 bits, and the place behind it
     Of(u32, usize),
@@ -105,7 +105,7 @@ pub(crate) fn next_number(line: &[u8], at: usize) -> Number {
     }
 }
 
-#[derive(Drop)]
+#[derive(Clone, Copy, Drop)]
 pub(crate) enum Place {
     At(usize),
     None,
@@ -147,24 +147,24 @@ pub(crate) fn place_of(byte: u8, line: &[u8], at: usize) -> usize {
     i
 }
 
-pub(crate) fn write_number(n: u64) {
-    io::write_all(STDOUT_FILENO, b" ");
-    io::print_decimal(STDOUT_FILENO, n);
+// What cannot be printed is passed over, here and in `main`.
+pub(crate) fn write_number(rt: &impl Print, n: u64) {
+    let _ = print!(rt; " {n}");
 }
 
-pub(crate) fn write_bytes(bytes: &[u8]) {
+pub(crate) fn write_bytes(rt: &impl Print, bytes: &[u8]) {
     for i in 0..bytes.len() {
-        write_number(bytes[i] as u64);
+        write_number(rt, bytes[i] as u64);
     }
 }
 
 // So many bytes from a place on; whether there are so many.
-pub(crate) fn write_places(bytes: &[u8], from: u32, count: u32) -> bool {
+pub(crate) fn write_places(rt: &impl Print, bytes: &[u8], from: u32, count: u32) -> bool {
     let from = from as usize;
     let to = from + count as usize;
     if bytes.len() < to {
         return false;
     }
-    write_bytes(&bytes[from..to]);
+    write_bytes(rt, &bytes[from..to]);
     true
 }

@@ -1,13 +1,16 @@
 // Reads RFC 4571 records from standard input, and hands their packets to a receiver of source 1 with room for 32,768 bytes. Each
 // complete record gets a line: its number, the receiver's reply, and the bytes held. The last line says whether the input ended behind
 // a record or in one, and how many were complete.
+#![tactic(auto)]
+
 ghost use Rattle.std.specs.Prelude.{◌≤◌, length};
 
-use libc::{STDIN_FILENO, STDOUT_FILENO};
 use records::{Next, Taken};
 use state::{Answer, Receiver};
+use std::io::Read;
 
-fn main() {
+fn main(rt: HostRuntime) {
+    let mut input = rt.stdin();
     let mut area = [0u8; 32768];
     let mut buffer = [0u8; 65537];
     let opened = state::open(1, 32768);
@@ -15,31 +18,30 @@ fn main() {
     // A proved loop ends, and nothing says that the input does: no run comes to so many records.
     let mut count: u64 = 0;
     while count < u64::MAX {
-        let taken = take_next(receiver, &mut area, &mut buffer);
-        let came = taken.came;
-        let Next::Answered(answer) = came else {
-            write_end(came, count);
+        let taken = take_next(&mut input, receiver, &mut area, &mut buffer);
+        let Next::Answered(answer) = taken.came else {
+            write_end(&rt, taken.came, count);
             break;
         };
         receiver = taken.receiver;
         count += 1;
-        write_line(count, answer);
+        write_line(&rt, count, answer);
     }
 }
 
-fn take_next(receiver: Receiver, area: &mut [u8], buffer: &mut [u8]) -> Taken
+fn take_next(input: &mut impl Read, receiver: Receiver, area: &mut [u8], buffer: &mut [u8]) -> Taken
     requires { 2 ≤ length buffer.old }
 {
-    let n = read_record(buffer);
+    let n = read_record(input, buffer);
     records::take(receiver, area, &buffer[0..n])
 }
 
 // Reads the next record to the front of the buffer, and answers how many bytes came.
-fn read_record(buffer: &mut [u8]) -> usize
+fn read_record(input: &mut impl Read, buffer: &mut [u8]) -> usize
     requires { 2 ≤ length buffer.old }
     ensures { result ≤ length buffer.new }
 {
-    let begun = io::read_full(STDIN_FILENO, &mut buffer[0..2]);
+    let begun = read_full(input, &mut buffer[0..2]);
     let end = records::length(&buffer[0..begun]);
     // The length is not all there, or it is 0: there is no more to read.
     if end <= 2 {
@@ -49,24 +51,33 @@ fn read_record(buffer: &mut [u8]) -> usize
     if buffer.len() < end {
         return begun;
     }
-    begun + io::read_full(STDIN_FILENO, &mut buffer[begun..end])
+    begun + read_full(input, &mut buffer[begun..end])
 }
 
-fn write_line(number: u64, answer: Answer) {
-    io::print_decimal(STDOUT_FILENO, number);
-    io::write_all(STDOUT_FILENO, b" ");
-    io::print_decimal(STDOUT_FILENO, answer.reply as u64);
-    io::write_all(STDOUT_FILENO, b" ");
-    io::print_decimal(STDOUT_FILENO, answer.held as u64);
-    io::write_all(STDOUT_FILENO, b"\n");
-}
-
-fn write_end(came: Next, count: u64) {
-    if let Next::Cut = came {
-        io::write_all(STDOUT_FILENO, b"cut ");
-    } else {
-        io::write_all(STDOUT_FILENO, b"end ");
+// Reads until the buffer is full, the input ends or a read fails, and answers how many bytes came.
+fn read_full(input: &mut impl Read, buffer: &mut [u8]) -> usize
+    ensures { result ≤ length buffer.new }
+{
+    let mut done = 0;
+    while done < buffer.len() {
+        match input.read(&mut buffer[done..]) {
+            Ok(0) => break,
+            Ok(n) => done += n,
+            Err(_) => break,
+        }
     }
-    io::print_decimal(STDOUT_FILENO, count);
-    io::write_all(STDOUT_FILENO, b"\n");
+    done
+}
+
+// What cannot be printed is passed over, here and at the end: the packets are taken all the same.
+fn write_line(rt: &impl Print, number: u64, answer: Answer) {
+    let _ = println!(rt; "{number} {} {}", answer.reply, answer.held);
+}
+
+fn write_end(rt: &impl Print, came: Next, count: u64) {
+    if let Next::Cut = came {
+        let _ = println!(rt; "cut {count}");
+    } else {
+        let _ = println!(rt; "end {count}");
+    }
 }

@@ -1,0 +1,10 @@
+-- The buffer keeps its length, as many files are not written as records came at most, and the count rises to the largest number at
+-- most.
+use Rattle.std.proofs.Common.{◌-◌, ◌≤◌, length, ◌≡◌}
+use Rattle.rebuild.proofs.run.Given as goal
+
+abbrev pub invariant-loop-count : goal.invariant-loop-count
+invariant-loop-count l = (length l.buffer ≡ 65537) × (l.not_written ≤ l.count)
+
+abbrev pub decreases-loop-count : goal.decreases-loop-count
+decreases-loop-count l = 18446744073709551615 - l.count

@@ -1,0 +1,6 @@
+-- Of each fragment three numbers were counted at most.
+use Rattle.std.proofs.Common.{◌≤◌, ◌*◌}
+use Rattle.vectors.proofs.state_case.used_numbers.Given as goal
+
+abbrev pub invariant-loop-i : goal.invariant-loop-i
+invariant-loop-i l = l.n ≤ 3 * l.i
