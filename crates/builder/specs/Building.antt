@@ -11,7 +11,7 @@ use Rattle.replies.specs.Reply
 use Rattle.replies.specs.declared.Judged.TheVariants.{Passed}
 use Rattle.replies.specs.declared.Written.{Written}
 use Rattle.state.specs.Receiver.{held_fragments, header_of}
-use Rattle.state.specs.WellFormed.{well_formed, WellFormed, well_formed_lem, held_within_room, some_held}
+use Rattle.state.specs.WellFormed.{well_formed, WellFormed, known_well_formed, held_within_room, some_held}
 use Rattle.state.specs.declared.Receiver.{Receiver}
 use Rattle.wire.specs.Lawful.{Lawful, lawful}
 use Rattle.wire.specs.declared.Header.{Header}
@@ -64,7 +64,7 @@ pub buildable : (r : Receiver) (area : List ℕ) → judged (checks r area) ≡ 
 buildable r area e =
     let t = all_hold (checks r area) e in
     record {
-      well = well_formed_lem r (not-false (well_formed r) t.0);
+      well = known_well_formed r (not-false (well_formed r) t.0);
       room = are_same (length area) r.room t.1.0;
       whole = not-false (Held.whole (held_fragments r)) t.1.1.0;
     }

@@ -11,7 +11,7 @@ use Rattle.receiver.specs.Time.{is_newer}
 use Rattle.receiver.specs.declared.Received.{Received}
 use Rattle.replies.specs.Reply
 use Rattle.state.specs.Receiver.{fresh, header_of, held_fragments}
-use Rattle.state.specs.WellFormed.{flag, picture_right, well_formed, well_formed_lem}
+use Rattle.state.specs.WellFormed.{flag, picture_right, well_formed, known_well_formed}
 use Rattle.state.specs.declared.Receiver.{Receiver}
 use Rattle.tally.specs.Counts.{Call, how_many, is_accepted, one_more, each_reply, all_given_up}
 use Rattle.tally.specs.Tally.{is_unfinished, none, closed}
@@ -33,9 +33,9 @@ Balances c = flag (is_unfinished c.before) + flag (begins c) ≡ flag (makes_who
 
 -- accepted, by the test
 module _ (c : Call) where
-  is_accepted_lem : Accepted c.answer → is_accepted c ≡ true
-  is_accepted_lem (inl e) = rw e
-  is_accepted_lem (inr e) = rw e
+  accepted_told : Accepted c.answer → is_accepted c ≡ true
+  accepted_told (inl e) = rw e
+  accepted_told (inr e) = rw e
 
   told_accepted : is_accepted c ≡ true → Accepted c.answer
   told_accepted e = split (eqb c.answer.reply Reply.held)
@@ -49,7 +49,7 @@ one_of false = refl
 -- a well-formed receiver that holds a picture says so with a 1
 flag_held : (r : Receiver) → well_formed r ≡ true → eqb r.picture 0 ≡ false → eqb r.picture 1 ≡ true
 unfolding picture_right
-flag_held r w some = (and_true (eqb r.picture 1) (is_lawful (header_of r)) (rw some at (well_formed_lem r w).picture)).0
+flag_held r w some = (and_true (eqb r.picture 1) (is_lawful (header_of r)) (rw some at (known_well_formed r w).picture)).0
 
 module _ (r : Receiver) (area p : List ℕ) where
   abbrev c : Call
@@ -64,7 +64,7 @@ module _ (r : Receiver) (area p : List ℕ) where
     s = t.packet
 
     accepted_then : is_accepted c ≡ true
-    accepted_then = is_accepted_lem c (small_accepted c.answer (reply_small r area p t))
+    accepted_then = accepted_told c (small_accepted c.answer (reply_small r area p t))
 
     -- a picture is held then, unfinished where the reply is not whole
     became : left ≡ taken (picture_for r s) p s
@@ -99,7 +99,7 @@ module _ (r : Receiver) (area p : List ℕ) where
       gives_none_up = rw same_time (and_false (is_unfinished r))
 
       unfinished_before : is_unfinished r ≡ true
-      unfinished_before = rw (flag_held r t.well_formed_lem some_held, ap (λ (v : Receiver). eqb v.whole 1) (sym (picture_held r s old)) ∙ t.accepted.not_whole)
+      unfinished_before = rw (flag_held r t.formed some_held, ap (λ (v : Receiver). eqb v.whole 1) (sym (picture_held r s old)) ∙ t.accepted.not_whole)
 
     -- it starts another, which gives up one that is unfinished
     module _ (new : starts r s ≡ true) where

@@ -63,7 +63,7 @@ delivered s p cs packet x arrivals well lent ps awaited arrive =
 pub delivery : CutDelivery
 delivery source room earlier answered x h s p cs packet arrivals =
     let r = reachable source room earlier answered x h in
-    delivered s p cs packet x arrivals r.well_formed_lem (r.as_long_as_the_room ∙ sym r.room_stays)
+    delivered s p cs packet x arrivals r.formed (r.as_long_as_the_room ∙ sym r.room_stays)
 
 -- So the receiver's step delivers, and with it whatever meets the contract of `receiver::receive`.
 delivers_itself : Delivers step
@@ -138,7 +138,7 @@ unfolding one_call_more
 told_as_brought source room packets answered x h p a z bytes receives told =
     let left : z.receiver ≡ (received x.receiver x.area p).receiver = ap (λ (d : Received). d.receiver) receives.answer in
     let reply = sym (ap (λ (d : Received). d.answer.reply) receives.answer) ∙ told in
-    let flagged = whole_flagged x.receiver x.area p bytes (reachable source room packets answered x h).well_formed_lem reply in
+    let flagged = whole_flagged x.receiver x.area p bytes (reachable source room packets answered x h).formed reply in
     provenance source room (packets ++ (p ∷ [])) (answered ++ (a ∷ [])) z (one_call_more h p a z bytes receives) (ap (λ (r : Receiver). r.whole) left ∙ flagged)
 
 -- and so is the picture of a file that `build` has then written with success.

@@ -8,7 +8,7 @@ use Rattle.fragments.specs.Order.{InOrder, EndBy}
 use Rattle.fragments.specs.Shared.{holds, is_held, held_at}
 use Rattle.fragments.specs.declared.Fragment.{Fragment}
 use Rattle.laws.specs.Any.{any}
-use Rattle.laws.specs.Put.{put, length_put, get_d_put}
+use Rattle.laws.specs.Put.{put, length_put, get_or_put}
 use Rattle.laws.specs.Truth.{split}
 use Rattle.demands.specs.Filled.{tab, filled}
 
@@ -45,7 +45,7 @@ module _ (fs : List Fragment) (scan old : List ℕ) (f : Fragment) (in-scan : st
       ext_get_or 0 (put (filled fs scan old) f.offset (bytes_of scan f)) (filled (insert f fs) scan old)
       (long ∙ sym (length_filled (insert f fs) scan old))
       (λ i h. let h' : i < length old = omega (arith, long) in
-      get_d_put (filled fs scan old) f.offset (bytes_of scan f) fits i
+      get_or_put (filled fs scan old) f.offset (bytes_of scan f) fits i
       ∙ rw (size, at_filled fs scan old i h') (at i)
       ∙ sym (at_filled (insert f fs) scan old i h'))
     where

@@ -200,14 +200,14 @@ module _ (g : Begun) (come : List Bool) (ok : Ok g come) (k : ℕ) (i : k < leng
           rw (e, told.tables e, first, own_tables g.packets.sendable both.1) (same_self p.tables))
           (λ e. rw e))
 
-      is_again_lem : is_again r area bytes said ≡ true
-      is_again_lem =
+      told_again : is_again r area bytes said ≡ true
+      told_again =
           let held = ap₂ (λ (f : Fragment) (fs : List Fragment). any (alike f) fs) told.covers (held_cuts g come ok) ∙ any_cut (alike c) come cs k i ok.0 in-it (alike_self c) in
           rw (held, again_bytes, same_self (scan_in bytes said), again_tables)
 
       when_again : every come ≡ false → decision r area bytes ≡ leave Reply.again
       unfolding judged
-      when_again o = judged_here ∙ rw (past_when, o, like, within, is_again_lem)
+      when_again o = judged_here ∙ rw (past_when, o, like, within, told_again)
 
     comes_to : Came (arrived g) (Ok g) come k (step (arrived g come) bytes)
     comes_to = split (every come)

@@ -10,7 +10,7 @@ use Rattle.fragments.specs.Shared.{holds, held_at}
 use Rattle.fragments.specs.declared.Fragment.{Fragment}
 use Rattle.laws.specs.Any.{any}
 use Rattle.laws.specs.Each.{Each, each_append, each_at}
-use Rattle.laws.specs.Put.{get_d_put}
+use Rattle.laws.specs.Put.{get_or_put}
 use Rattle.laws.specs.Truth.{split, never_both}
 use Rattle.receiver.proofs.Laws.{Taken, by_decision, when_accepted, reply_small, time_taken, held_taken}
 use Rattle.receiver.specs.Picture.{starts, picture_for, picture_begun, picture_held, picture_room}
@@ -18,7 +18,7 @@ use Rattle.receiver.specs.Step.{taken}
 use Rattle.receiver.specs.Verdict.{fragment_of}
 use Rattle.receiver.specs.declared.Received.{Received}
 use Rattle.state.specs.Receiver.{header_of, held_fragments}
-use Rattle.state.specs.WellFormed.{well_formed, WellFormed, well_formed_lem, whole_told, held_within_room}
+use Rattle.state.specs.WellFormed.{well_formed, WellFormed, known_well_formed, whole_told, held_within_room}
 use Rattle.state.specs.declared.Receiver.{Receiver}
 use Rattle.wire.specs.Field.{Bytes}
 use Rattle.wire.specs.Readable.{read_packet, scan_long}
@@ -98,7 +98,7 @@ module _ (x : State) (past : List (List ℕ)) (p : List ℕ) where
     byte_then : (i : ℕ) → get_or z.area i 0 ≡ cond (holds i (fragment_of s)) (get_or (scan_in p s) (i - s.offset) 0) (get_or area i 0)
     byte_then i =
         ap (λ (l : List ℕ). get_or l i 0) (when_accepted r area p t.decided).1
-        ∙ get_d_put area s.offset (scan_in p s) (omega (arith, its_length, t.accepted.fits, t.lent, picture_room r s)) i
+        ∙ get_or_put area s.offset (scan_in p s) (omega (arith, its_length, t.accepted.fits, t.lent, picture_room r s)) i
         ∙ rw its_length
 
     module _ (source : r.source ≡ x.receiver.source) (bytes : Bytes p) (k : Known x past y) where
@@ -196,7 +196,7 @@ as_brought x packets well long small none bytes is =
     record {
       end_known = rw w.end t.known;
       in_the_area = omega (arith, w.end, t.sum, held_within_room w, reached.as_long_as_the_room, reached.room_stays);
-      no_gap = λ i h. exactly_one i 0 fs w.in_place_lem.order (held i h);
+      no_gap = λ i h. exactly_one i 0 fs w.placed.order (held i h);
       each_byte = λ i h. (any_more x [] packets well long tt bytes nothing_held).held i (held i h);
     }
   where
@@ -207,7 +207,7 @@ as_brought x packets well long small none bytes is =
     reached = stays x packets well long bytes
 
     w : WellFormed left.receiver
-    w = well_formed_lem left.receiver reached.well_formed_lem
+    w = known_well_formed left.receiver reached.formed
 
     fs : List Fragment
     fs = held_fragments left.receiver
@@ -216,7 +216,7 @@ as_brought x packets well long small none bytes is =
     t = is_whole fs (sym (whole_told w) ∙ rw is)
 
     held : (i : ℕ) → i < left.receiver.end → any (holds i) fs ≡ true
-    held i h = no_gap 0 (end_of fs) i fs w.in_place_lem.order (ended 0 fs w.in_place_lem.order w.in_place_lem.marked t.known) (omega (arith, t.sum)) (omega arith) (rw w.end at h)
+    held i h = no_gap 0 (end_of fs) i fs w.placed.order (ended 0 fs w.placed.order w.placed.marked t.known) (omega (arith, t.sum)) (omega arith) (rw w.end at h)
 
     nothing_held : Known x [] x
     nothing_held = record { time = small; held = λ i h. absurd (never_both h (ap (any (holds i)) none)) }

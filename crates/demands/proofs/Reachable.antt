@@ -18,7 +18,7 @@ use Rattle.demands.specs.Reachable.{Reached, HistoriesAreSteps, HistoriesReach, 
 
 -- From any well-formed receiver with an area as long as its room, opened just now or not.
 pub stays : (x : State) (packets : List (List ℕ)) → well_formed x.receiver ≡ true → length x.area ≡ x.receiver.room → Each Bytes packets → Reached x.receiver.source x.receiver.room (answers step x packets) (after step x packets)
-stays x [] well long bytes = record { source_stays = refl; room_stays = refl; well_formed_lem = well; as_long_as_the_room = long; never_9 = tt; never_8 = tt }
+stays x [] well long bytes = record { source_stays = refl; room_stays = refl; formed = well; as_long_as_the_room = long; never_9 = tt; never_8 = tt }
 stays x (p ∷ packets) well long bytes =
     let r = x.receiver in
     let source = source_stays r x.area p in
@@ -29,7 +29,7 @@ stays x (p ∷ packets) well long bytes =
     record {
       source_stays = rest.source_stays ∙ source;
       room_stays = rest.room_stays ∙ room;
-      well_formed_lem = rest.well_formed_lem;
+      formed = rest.formed;
       as_long_as_the_room = rest.as_long_as_the_room ∙ room;
       never_9 = (other.0, rest.never_9);
       never_8 = (other.1, rest.never_8);
@@ -55,7 +55,7 @@ reachable source room packets answered x h =
 pub builds : BuilderRefusesNeither
 builds source room packets answered x before w after h met =
     let r = reachable source room packets answered x h in
-    built-replied x.receiver x.area met r.well_formed_lem (r.as_long_as_the_room ∙ sym r.room_stays)
+    built-replied x.receiver x.area met r.formed (r.as_long_as_the_room ∙ sym r.room_stays)
 
 -- A history with one call more is a history.
 module _ {source room : ℕ} {packets : List (List ℕ)} {answered : List Answer} {x : State} (h : History source room packets answered x) where

@@ -7,7 +7,7 @@ use Rattle.fragments.specs.Array.{held_padded}
 use Rattle.fragments.specs.Held.{total, end_of, tiles_total, tiles_end}
 use Rattle.fragments.specs.declared.Fragment.{Fragment}
 use Rattle.head.specs.declared.Frame.{Frame}
-use Rattle.state.specs.WellFormed.{well_formed_lem}
+use Rattle.state.specs.WellFormed.{known_well_formed}
 use Rattle.state.specs.declared.Receiver.{Receiver}
 use Rattle.demands.proofs.Arrived.{area_lent}
 use Rattle.demands.proofs.CutsIn.{cuts_in_all, in_order, end_by, whole_in}
@@ -48,7 +48,7 @@ module _ (g : Begun) (come : List Bool) (ok : Ok g come) (all : every come ≡ t
 
   buildable : Buildable r area
   buildable = record {
-    well = well_formed_lem r ok.1;
+    well = known_well_formed r ok.1;
     room = area_lent g come ok;
     whole = rw (held_padded fs) (whole_in (length scan) come g.cuts some g.packets.tile ok.0 ∙ all);
   }

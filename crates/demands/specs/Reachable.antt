@@ -13,7 +13,7 @@ use Rattle.state.specs.Receiver.{fresh}
 pub record Reached (source room : ℕ) (answered : List Answer) (x : State) : Type 0 where
   pub source_stays : x.receiver.source ≡ source
   pub room_stays : x.receiver.room ≡ room
-  pub well_formed_lem : well_formed x.receiver ≡ true
+  pub formed : well_formed x.receiver ≡ true
   pub as_long_as_the_room : length x.area ≡ room
   pub never_9 : Each (λ (a : Answer). a.reply ≡ Reply.not_well_formed → ⊥) answered
   pub never_8 : Each (λ (a : Answer). a.reply ≡ Reply.area_not_room → ⊥) answered

@@ -88,9 +88,9 @@ module _ (f : Fragment) (fs : List Fragment) (o : InOrder 0 fs) where
           (go (stop g) gs o.2 s.1))
           (λ e. rw (e, lt-ltb (stop f) (stop g) (omega (arith, o, ltb-false g.offset (stop f) e)), lt-ltb 0 (length (g ∷ gs)) (omega arith)))
 
-  pub near_clashes_lem : 1 ≤ f.length → clashes f fs ≡ near_clashes f (share f (in_front f fs)) (end_of fs) (place f fs) (length fs)
+  pub clashes_are_near : 1 ≤ f.length → clashes f fs ≡ near_clashes f (share f (in_front f fs)) (end_of fs) (place f fs) (length fs)
   unfolding clashes near_clashes
-  near_clashes_lem n = rw (← near_shares f n fs o) (split (any (share f) fs) (λ s. rw s) (λ s. rw (s, behind_place n s)))
+  clashes_are_near n = rw (← near_shares f n fs o) (split (any (share f) fs) (λ s. rw s) (λ s. rw (s, behind_place n s)))
 
   pub end_insert : Clear f fs → end_of (insert f fs) ≡ cond (is_marked f) (stop f) (end_of fs)
   end_insert c = split (is_marked f) (λ m. rw m (end_marked f 0 fs m o (c.open_still m))) (λ m. rw m (end_unmarked f fs m))

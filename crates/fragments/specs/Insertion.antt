@@ -9,7 +9,7 @@ use Rattle.laws.specs.Truth.{split, never_both, or_false}
 use Rattle.fragments.specs.Fragments.{stop, fragment_at, nothing}
 use Rattle.fragments.specs.Held.{total, end_of}
 use Rattle.fragments.specs.Order.{EndBy, InOrder, in_order_from, last}
-use Rattle.fragments.specs.Shared.{share, alike, unshared, unshared_behind, byte_shared, held_at, in_front_lem, shared, share_swap, alike_same, alike_shares}
+use Rattle.fragments.specs.Shared.{share, alike, unshared, unshared_behind, byte_shared, held_at, stops_in_front, shared, share_swap, alike_same, alike_shares}
 use Rattle.fragments.specs.declared.Fragment.{Fragment}
 
 -- how many, from the first on, begin before a byte of the scan
@@ -84,7 +84,7 @@ module _ (f : Fragment) where
 
   -- those that share no byte with it and begin before it ends are in front of it
   pub ends_in_front : (g : Fragment) → share f g ≡ false → 1 ≤ f.length → 1 ≤ g.length → g.offset < stop f → stop g ≤ f.offset
-  ends_in_front g s n m b = in_front_lem g f (share_swap f g ∙ s) m n b
+  ends_in_front g s n m b = stops_in_front g f (share_swap f g ∙ s) m n b
 
   -- and stay in order
   pub in_order_insert : (at : ℕ) (fs : List Fragment) → InOrder at fs → at ≤ f.offset → 1 ≤ f.length → Each (λ (g : Fragment). share f g ≡ false) fs → InOrder at (insert f fs)

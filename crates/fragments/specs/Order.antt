@@ -10,7 +10,7 @@ use Rattle.laws.specs.Chained.{chained, last_of}
 use Rattle.laws.specs.Each.{Each, each_weaken, each_both}
 use Rattle.laws.specs.Truth.{split, and_true, same_test}
 use Rattle.fragments.specs.Fragments.{stop, nothing}
-use Rattle.fragments.specs.Shared.{share, unshared, in_front_lem}
+use Rattle.fragments.specs.Shared.{share, unshared, stops_in_front}
 use Rattle.fragments.specs.Tiles.{marker_before}
 use Rattle.fragments.specs.declared.Fragment.{Fragment}
 
@@ -74,7 +74,7 @@ tests_in_order at (f ∷ fs) b n r a =
     (λ (g : Fragment). (has_bytes g ≡ true) × ((rises f g ≡ true) × (is_apart f g ≡ true)))
     (λ (g : Fragment). stop f ≤ g.offset)
     (λ g h. let m = leb-true 1 g.length h.0 in
-    in_front_lem f g (not-true (share f g) h.1.1) long m (omega (arith, ltb-true f.offset g.offset h.1.0)))
+    stops_in_front f g (not-true (share f g) h.1.1) long m (omega (arith, ltb-true f.offset g.offset h.1.0)))
     fs
     (each_both (λ (g : Fragment). has_bytes g ≡ true) (λ (g : Fragment). (rises f g ≡ true) × (is_apart f g ≡ true)) fs
     (all_each has_bytes fs n'.1)
@@ -142,9 +142,9 @@ module _ (room : ℕ) (fs : List Fragment) where
   all_end : EndBy room fs → all (ends_by room) fs ≡ true
   all_end i = each_all (ends_by room) fs (each_weaken (λ (f : Fragment). stop f ≤ room) (λ (f : Fragment). ends_by room f ≡ true) (λ f b. le-leb (stop f) room b) fs i)
 
-  pub in_place_lem : in_place room fs ≡ true → InPlace room fs
+  pub known_in_place : in_place room fs ≡ true → InPlace room fs
   unfolding in_place
-  in_place_lem e =
+  known_in_place e =
       let a = and_true (are_ordered fs && all (ends_by room) fs) (leb (last fs).marker 1) e in
       let b = and_true (are_ordered fs) (all (ends_by room) fs) a.0 in
       let o = ordered fs b.0 in
@@ -205,9 +205,9 @@ module _ (room : ℕ) where
   pub reach_within : (fs : List Fragment) → EndBy room fs → reach fs ≤ room
   reach_within fs e = last_ends nothing fs (omega arith, e)
 
-  pub in_line_lem : (fs : List Fragment) → in_line room fs ≡ in_place room fs
+  pub in_line_in_place : (fs : List Fragment) → in_line room fs ≡ in_place room fs
   unfolding in_line in_place
-  in_line_lem fs = split (are_ordered fs) (λ e. rw (e, by_last e)) (λ e. rw e)
+  in_line_in_place fs = split (are_ordered fs) (λ e. rw (e, by_last e)) (λ e. rw e)
     where
       by_last : are_ordered fs ≡ true → leb (reach fs) room ≡ all (ends_by room) fs
       by_last e = same_test (leb (reach fs) room) (all (ends_by room) fs)

@@ -55,8 +55,8 @@ module _ (f g : Fragment) where
   unshared_behind h = le-ltb (max f.offset g.offset) (min (stop f) (stop g)) (omega arith)
 
   -- and then, of two that have bytes, the one that begins before the other ends is in front of it
-  pub in_front_lem : share f g ≡ false → 1 ≤ f.length → 1 ≤ g.length → f.offset < stop g → stop f ≤ g.offset
-  in_front_lem h n m a = split (ltb g.offset (stop f))
+  pub stops_in_front : share f g ≡ false → 1 ≤ f.length → 1 ≤ g.length → f.offset < stop g → stop f ≤ g.offset
+  stops_in_front h n m a = split (ltb g.offset (stop f))
       (λ e. absurd (never_both (shared a (ltb-true g.offset (stop f) e) n m) h))
       (λ e. ltb-false g.offset (stop f) e)
 

@@ -23,18 +23,18 @@ pub record PutsUpTo (before : List ℕ) (at : ℕ) (bytes after : List ℕ) (beh
 pub length_put : (l : List ℕ) (at : ℕ) (bytes : List ℕ) → at + length bytes ≤ length l → length (put l at bytes) ≡ length l
 length_put l at bytes h = simp (length-append, length-take, length-drop) (omega arith)
 
-get_d_behind : (l m : List ℕ) (i : ℕ) → length l ≤ i → get_or (l ++ m) i 0 ≡ get_or m (i - length l) 0
-get_d_behind l m i h = ap (λ (j : ℕ). get_or (l ++ m) j 0) (sym (add-sub_of_le h)) ∙ get_or-append-add l m (i - length l) 0
+get_or_behind : (l m : List ℕ) (i : ℕ) → length l ≤ i → get_or (l ++ m) i 0 ≡ get_or m (i - length l) 0
+get_or_behind l m i h = ap (λ (j : ℕ). get_or (l ++ m) j 0) (sym (add-sub_of_le h)) ∙ get_or-append-add l m (i - length l) 0
 
 -- a byte of it afterwards: one of those put, or the one that stood there
-pub get_d_put : (l : List ℕ) (at : ℕ) (bytes : List ℕ) → at + length bytes ≤ length l → (i : ℕ) → get_or (put l at bytes) i 0 ≡ cond (leb at i && ltb i (at + length bytes)) (get_or bytes (i - at) 0) (get_or l i 0)
-get_d_put l at bytes fits i = split (leb at i)
+pub get_or_put : (l : List ℕ) (at : ℕ) (bytes : List ℕ) → at + length bytes ≤ length l → (i : ℕ) → get_or (put l at bytes) i 0 ≡ cond (leb at i && ltb i (at + length bytes)) (get_or bytes (i - at) 0) (get_or l i 0)
+get_or_put l at bytes fits i = split (leb at i)
     (λ a. let a' = leb-true at i a in
-    rw (get_d_behind (take at l) (bytes ++ drop (at + length bytes) l) i (rw front a'), front, a)
+    rw (get_or_behind (take at l) (bytes ++ drop (at + length bytes) l) i (rw front a'), front, a)
     (split (ltb i (at + length bytes))
     (λ b. rw (b, get_or-append bytes (drop (at + length bytes) l) 0 (i - at) (omega (arith, ltb-true i (at + length bytes) b))))
     (λ b. let b' = ltb-false i (at + length bytes) b in
-    rw (b, get_d_behind bytes (drop (at + length bytes) l) (i - at) (omega arith), get_or-drop) (ap (λ (j : ℕ). get_or l j 0) (omega arith)))))
+    rw (b, get_or_behind bytes (drop (at + length bytes) l) (i - at) (omega arith), get_or-drop) (ap (λ (j : ℕ). get_or l j 0) (omega arith)))))
     (λ a. let a' = leb-false at i a in
     rw (a, get_or-append (take at l) (bytes ++ drop (at + length bytes) l) 0 i (rw front a'), get_or-take))
   where

@@ -15,10 +15,10 @@ use Rattle.replies.specs.Reply
 use Rattle.replies.specs.declared.Judged.TheVariants.{Passed, Refused}
 use Rattle.replies.specs.declared.Judged.{Judged}
 use Rattle.state.specs.Receiver.{held_fragments, header_of}
-use Rattle.state.specs.WellFormed.{flag, well_formed, WellFormed, well_formed_lem, is_well_formed, start_held, one_held}
+use Rattle.state.specs.WellFormed.{flag, well_formed, WellFormed, known_well_formed, is_well_formed, start_held, one_held}
 use Rattle.state.specs.declared.Receiver.{Receiver}
 use Rattle.wire.specs.Field.{Bytes}
-use Rattle.wire.specs.Lawful.{is_lawful, is_lawful_lem}
+use Rattle.wire.specs.Lawful.{is_lawful, lawful_told}
 use Rattle.wire.specs.Readable.{Readable, read_packet, read_refused, scan_long}
 use Rattle.wire.specs.Reading.{reading, scan_in, checks as readChecks}
 use Rattle.wire.specs.declared.Header.{Header}
@@ -43,7 +43,7 @@ pub data Left (r : Receiver) (area p : List ℕ) (n : ℕ) : Type 0 where
 -- A packet that is taken, and what is known of it.
 pub record Taken (r : Receiver) (area p : List ℕ) : Type 0 where
   pub packet : Packet
-  pub well_formed_lem : well_formed r ≡ true
+  pub formed : well_formed r ≡ true
   pub lent : length area ≡ r.room
   pub read : reading r.source p ≡ Answer.Said packet
   pub accepted : Accepted (picture_for r packet) packet
@@ -72,7 +72,7 @@ module _ (r : Receiver) (area p : List ℕ) where
       by_verdict : well_formed r ≡ true → (length area == r.room) ≡ true → (s : Packet) → reading r.source p ≡ Answer.Said s → (j : Judged) → verdict r area p s ≡ j → P
       by_verdict w l s e Passed v = takes (record {
         packet = s;
-        well_formed_lem = w;
+        formed = w;
         lent = eqb-true (length area) r.room l;
         read = e;
         accepted = accepted (picture_for r s) area p s v;
@@ -191,9 +191,9 @@ module _ (r : Receiver) (p : List ℕ) (s : Packet) where
       record {
         room = w.room;
         count = rw (length_insert f fs) a.few;
-        in_place_lem = rw (held_padded after) (in_place_insert r.room f fs w.in_place_lem a.clear read.scan read.marker a.fits);
+        placed = rw (held_padded after) (in_place_insert r.room f fs w.placed a.clear read.scan read.marker a.fits);
         unused = unused_padded after;
-        picture = one_held r.time (length after) (header_of r) ∙ (ap is_lawful a.like ∙ is_lawful_lem s.header read.header);
+        picture = one_held r.time (length after) (header_of r) ∙ (ap is_lawful a.like ∙ lawful_told s.header read.header);
         end = rw (held_padded after);
         tables = rw (held_padded after, start_insert f fs read.scan, q) (tables_after_right p s read r.kept w.kept a.supplied (start_held fs) r.tables (rw q at w.tables));
         kept = kept_after_well p s read r.kept w.kept;
@@ -211,12 +211,12 @@ module _ (r : Receiver) (area p : List ℕ) where
       (λ t. let s = t.packet in
       let read = read_packet r.source p s t.read bytes in
       let v = picture_for r s in
-      rw t.decided (is_well_formed (taken v p s) (taken_well_formed v p s (well_formed_lem v (picture_well_formed r s w read.header)) read t.accepted)))
+      rw t.decided (is_well_formed (taken v p s) (taken_well_formed v p s (known_well_formed v (picture_well_formed r s w read.header)) read t.accepted)))
 
   -- with the reply whole, the flag says so too
   pub whole_flagged : Bytes p → well_formed r ≡ true → (received r area p).answer.reply ≡ Reply.whole → (received r area p).receiver.whole ≡ 1
   whole_flagged bytes w e =
-      (well_formed_lem (received r area p).receiver (keeps_well_formed bytes w)).whole
+      (known_well_formed (received r area p).receiver (keeps_well_formed bytes w)).whole
       ∙ sym (reply_taken r area p (taken_when r area p (omega arith)))
       ∙ e
 

@@ -1,7 +1,7 @@
 -- What the pass over the fragments tells of a packet for the picture that it is for. Assumes nothing.
 use Rattle.std.proofs.Common.{◌≡◌, ℕ, ◌&&◌, List, length, take, sym, refl, ap, ◌∙◌, arith, length-take-le}
 use Rattle.fragments.specs.Array.{placed}
-use Rattle.fragments.specs.Clash.{clashes, near_clashes, near_clashes_lem}
+use Rattle.fragments.specs.Clash.{clashes, near_clashes, clashes_are_near}
 use Rattle.fragments.specs.Held.{end_of}
 use Rattle.fragments.specs.Insertion.{place, near_alike}
 use Rattle.fragments.specs.Shared.{alike}
@@ -28,7 +28,7 @@ module _ {r : Receiver} {p : List ℕ} {s : Packet} (known : Known r p s) where
   pub picture_length : length (held_fragments (picture_for r s)) ≡ (picture_for r s).fragment_count
   picture_length =
       ap length (sym (picture_fragments r s))
-      ∙ length-take-le (picture_for r s).fragment_count r.fragments (omega (arith, known.long, picture_count r s known.well_formed_lem))
+      ∙ length-take-le (picture_for r s).fragment_count r.fragments (omega (arith, known.long, picture_count r s known.formed))
 
   module _ {q : Placed} (told : q ≡ placed (fragment_of s) (take (picture_for r s).fragment_count r.fragments)) where
     placed_in : q ≡ placed (fragment_of s) (held_fragments (picture_for r s))
@@ -40,13 +40,13 @@ module _ {r : Receiver} {p : List ℕ} {s : Packet} (known : Known r p s) where
     pub same_held : q.same ≡ any (alike (fragment_of s)) (held_fragments (picture_for r s))
     same_held =
         ap (λ (x : Placed). x.same) placed_in
-        ∙ sym (near_alike (fragment_of s) (scan_some r.source p s known.read) (held_fragments (picture_for r s)) (picture_in_place r s known.well_formed_lem).order)
+        ∙ sym (near_alike (fragment_of s) (scan_some r.source p s known.read) (held_fragments (picture_for r s)) (picture_in_place r s known.formed).order)
 
     pub clash_told : near_clashes (fragment_of s) q.shares (picture_for r s).end q.at (picture_for r s).fragment_count ≡ clashes (fragment_of s) (held_fragments (picture_for r s))
     clash_told =
         let f = fragment_of s in
         let fs = held_fragments (picture_for r s) in
         ap (near_clashes f q.shares (picture_for r s).end q.at) (sym picture_length)
-        ∙ ap (λ (e : ℕ). near_clashes f q.shares e q.at (length fs)) (picture_end r s known.well_formed_lem)
+        ∙ ap (λ (e : ℕ). near_clashes f q.shares e q.at (length fs)) (picture_end r s known.formed)
         ∙ ap (λ (x : Placed). near_clashes f x.shares (end_of fs) x.at (length fs)) placed_in
-        ∙ sym (near_clashes_lem f fs (picture_in_place r s known.well_formed_lem).order (scan_some r.source p s known.read))
+        ∙ sym (clashes_are_near f fs (picture_in_place r s known.formed).order (scan_some r.source p s known.read))

@@ -16,7 +16,7 @@ use Rattle.laws.specs.Same.{same_true}
 use Rattle.laws.specs.Truth.{split, and_true, and_truth, never_both}
 use Rattle.slices.specs.Slices.{put_at, put_fits}
 use Rattle.state.specs.Receiver.{held_fragments}
-use Rattle.state.specs.WellFormed.{flag, flag_told, tables_given, well_formed_lem}
+use Rattle.state.specs.WellFormed.{flag, flag_told, tables_given, known_well_formed}
 use Rattle.state.specs.declared.Receiver.{Receiver}
 use Rattle.tables.specs.Quantiser.{tables_of}
 use Rattle.wire.specs.Readable.{scan_long}
@@ -77,7 +77,7 @@ tables_made {r} {p} {s} known first held =
     let u = and_true (is_made (table_source q)) (eqb r.q q) t.0 in
     let between = made_between q u.0 in
     let source = made_to_99 q between.0 between.1 in
-    let right = rw (eqb-true r.q q u.1) at (well_formed_lem r known.well_formed_lem).tables in
+    let right = rw (eqb-true r.q q u.1) at (known_well_formed r known.formed).tables in
     known_made q _ r.tables source right (not-true (is_zero (get_or r.tables 0 0)) t.1) ∙ rw source at (tables_first r p s first)
 
 -- the next receiver but for the store, put together of the picture's numbers and of its new parts
@@ -105,7 +105,7 @@ put_together r p s same e w n f tables t = rw same (cc (picture_source r s, pict
 
 module _ {r : Receiver} {p : List ℕ} {s : Packet} (known : Known r p s) (accepted : Accepted (picture_for r s) s) where
   pub ends_inside : stop (fragment_of s) ≤ 65536
-  ends_inside = omega (arith, accepted.fits, picture_room r s, (well_formed_lem r known.well_formed_lem).room)
+  ends_inside = omega (arith, accepted.fits, picture_room r s, (known_well_formed r known.formed).room)
 
   pub few_held : (picture_for r s).fragment_count < 64
   few_held = omega (arith, accepted.few, picture_length known)
@@ -117,15 +117,15 @@ module _ {r : Receiver} {p : List ℕ} {s : Packet} (known : Known r p s) (accep
   place_among = omega (arith, picture_length known, place_within (fragment_of s) (held_fragments (picture_for r s)))
 
   pub clear_behind : all is_nothing (drop (picture_for r s).fragment_count (cond (starts r s) no_fragments r.fragments)) ≡ true
-  clear_behind = rw (← picture_array r s) (picture_unused r s known.well_formed_lem)
+  clear_behind = rw (← picture_array r s) (picture_unused r s known.formed)
 
   pub put_among : padded (insert_at (place (fragment_of s) (held_fragments (picture_for r s))) (fragment_of s) (take (picture_for r s).fragment_count (cond (starts r s) no_fragments r.fragments))) ≡ padded (insert (fragment_of s) (held_fragments (picture_for r s)))
   put_among = rw (← picture_array r s)
 
   pub end_after : cond (is_marked (fragment_of s)) (stop (fragment_of s)) (picture_for r s).end ≡ end_of (insert (fragment_of s) (held_fragments (picture_for r s)))
   end_after =
-      ap (cond (is_marked (fragment_of s)) (stop (fragment_of s))) (picture_end r s known.well_formed_lem)
-      ∙ sym (end_insert (fragment_of s) (held_fragments (picture_for r s)) (picture_in_place r s known.well_formed_lem).order accepted.clear)
+      ap (cond (is_marked (fragment_of s)) (stop (fragment_of s))) (picture_end r s known.formed)
+      ∙ sym (end_insert (fragment_of s) (held_fragments (picture_for r s)) (picture_in_place r s known.formed).order accepted.clear)
 
   pub total_after : total (held_fragments (picture_for r s)) + s.scan.length ≡ total (insert (fragment_of s) (held_fragments (picture_for r s)))
   total_after = omega (arith, total_insert (fragment_of s) (held_fragments (picture_for r s)))
@@ -133,8 +133,8 @@ module _ {r : Receiver} {p : List ℕ} {s : Packet} (known : Known r p s) (accep
   -- what is held and comes fits into 32 bits
   pub held_small : total (held_fragments (picture_for r s)) ≤ 65536
   held_small =
-      let in_place_lem = picture_in_place r s known.well_formed_lem in
-      omega (arith, (well_formed_lem r known.well_formed_lem).room, total_within 0 r.room (held_fragments (picture_for r s)) in_place_lem.order in_place_lem.inside (omega arith))
+      let placed = picture_in_place r s known.formed in
+      omega (arith, (known_well_formed r known.formed).room, total_within 0 r.room (held_fragments (picture_for r s)) placed.order placed.inside (omega arith))
 
   -- the scan data fits where it goes
   pub written : (area : List ℕ) {after bytes : List ℕ} → length area ≡ r.room → bytes ≡ scan_in p s → after ≡ put_at area s.offset bytes → after ≡ put area s.offset (scan_in p s)

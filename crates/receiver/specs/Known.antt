@@ -20,7 +20,7 @@ use Rattle.receiver.specs.declared.picture.Numbers.{Numbers}
 
 -- The receiver is well formed, its array has 64 places, and the packet p says s.
 pub record Known (r : Receiver) (p : List ℕ) (s : Packet) : Type 0 where
-  pub well_formed_lem : well_formed r ≡ true
+  pub formed : well_formed r ≡ true
   pub long : length r.fragments ≡ 64
   pub read : reading r.source p ≡ Answer.Said s
 

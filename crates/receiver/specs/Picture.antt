@@ -10,9 +10,9 @@ use Rattle.kept.specs.Kept.{blank}
 use Rattle.laws.specs.All.{all}
 use Rattle.laws.specs.Truth.{split}
 use Rattle.state.specs.Receiver.{held_fragments, unused}
-use Rattle.state.specs.WellFormed.{tables_given, well_formed, well_formed_lem, is_well_formed, one_held}
+use Rattle.state.specs.WellFormed.{tables_given, well_formed, known_well_formed, is_well_formed, one_held}
 use Rattle.state.specs.declared.Receiver.{Receiver}
-use Rattle.wire.specs.Lawful.{Lawful, is_lawful_lem}
+use Rattle.wire.specs.Lawful.{Lawful, lawful_told}
 use Rattle.wire.specs.declared.Packet.{Packet}
 use Rattle.receiver.specs.Time.{is_newer}
 
@@ -86,29 +86,29 @@ module _ (r : Receiver) (s : Packet) where
   -- what a well-formed receiver has, of the one held or of one begun; all of it where the packet's header fields are lawful
   module _ (w : well_formed r ≡ true) where
     pub picture_count : (picture_for r s).fragment_count ≤ 64
-    picture_count = by_picture (λ (v : Receiver). v.fragment_count ≤ 64) (omega arith) (well_formed_lem r w).count
+    picture_count = by_picture (λ (v : Receiver). v.fragment_count ≤ 64) (omega arith) (known_well_formed r w).count
 
     pub picture_in_place : InPlace r.room (held_fragments (picture_for r s))
-    picture_in_place = by_picture (λ (v : Receiver). InPlace r.room (held_fragments v)) (record { order = tt; inside = tt; marked = tt }) (well_formed_lem r w).in_place_lem
+    picture_in_place = by_picture (λ (v : Receiver). InPlace r.room (held_fragments v)) (record { order = tt; inside = tt; marked = tt }) (known_well_formed r w).placed
 
     pub picture_unused : all is_nothing (unused (picture_for r s)) ≡ true
     unfolding no_fragments alike
-    picture_unused = by_picture (λ (v : Receiver). all is_nothing (unused v) ≡ true) refl (well_formed_lem r w).unused
+    picture_unused = by_picture (λ (v : Receiver). all is_nothing (unused v) ≡ true) refl (known_well_formed r w).unused
 
     pub picture_end : (picture_for r s).end ≡ end_of (held_fragments (picture_for r s))
-    picture_end = by_picture (λ (v : Receiver). v.end ≡ end_of (held_fragments v)) refl (well_formed_lem r w).end
+    picture_end = by_picture (λ (v : Receiver). v.end ≡ end_of (held_fragments v)) refl (known_well_formed r w).end
 
     begun_well_formed : Lawful s.header → well_formed (begun r s) ≡ true
     unfolding no_fragments alike tables_given blank reached
     begun_well_formed l = is_well_formed (begun r s) (record {
-      room = (well_formed_lem r w).room;
+      room = (known_well_formed r w).room;
       count = omega arith;
-      in_place_lem = record { order = tt; inside = tt; marked = tt };
+      placed = record { order = tt; inside = tt; marked = tt };
       unused = refl;
-      picture = one_held s.time 0 s.header ∙ is_lawful_lem s.header l;
+      picture = one_held s.time 0 s.header ∙ lawful_told s.header l;
       end = refl;
       tables = refl;
-      kept = (well_formed_lem r w).kept;
+      kept = (known_well_formed r w).kept;
       whole = refl;
     })
 

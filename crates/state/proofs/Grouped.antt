@@ -4,13 +4,13 @@ use mathlib.Core.Path.{◌≡◌}
 use borrow.Author.Tests.{leb-true, le-leb, eqb-true, eq-eqb}
 use Rattle.fragments.specs.Array.{is_nothing}
 use Rattle.fragments.specs.Held as Held
-use Rattle.fragments.specs.Order.{in_place, in_place_lem, is_in_place}
+use Rattle.fragments.specs.Order.{in_place, known_in_place, is_in_place}
 use Rattle.kept.specs.Kept.{well_kept}
 use Rattle.laws.specs.All.{all}
 use Rattle.laws.specs.Truth.{and_true, same_test}
 use Rattle.laws.specs.Within.{is_within, between}
 use Rattle.state.specs.Receiver.{held_fragments, unused, header_of}
-use Rattle.state.specs.WellFormed.{is_room, is_count, picture_right, end_right, whole_right, flag, tables_right, fragments_right, well_formed, well_formed_lem, is_well_formed}
+use Rattle.state.specs.WellFormed.{is_room, is_count, picture_right, end_right, whole_right, flag, tables_right, fragments_right, well_formed, known_well_formed, is_well_formed}
 use Rattle.state.specs.declared.Receiver.{Receiver}
 
 abbrev pub picture_of : Receiver → Bool
@@ -53,7 +53,7 @@ module _ (r : Receiver) where
           is_well_formed r (record {
             room = between 1 65536 r.room n.0;
             count = leb-true r.fragment_count 64 n.1;
-            in_place_lem = in_place_lem r.room (held_fragments r) f.0;
+            placed = known_in_place r.room (held_fragments r) f.0;
             unused = f.1;
             picture = d.1;
             end = eqb-true r.end (Held.end_of (held_fragments r)) f.2;
@@ -64,13 +64,13 @@ module _ (r : Receiver) where
 
       back : well_formed r ≡ true → grouped r ≡ true
       back e =
-          let w = well_formed_lem r e in
+          let w = known_well_formed r e in
           let fs = held_fragments r in
           rw (
             is_within 1 65536 r.room w.room.0 w.room.1,
             le-leb r.fragment_count 64 w.count,
             w.picture,
-            is_in_place r.room fs w.in_place_lem,
+            is_in_place r.room fs w.placed,
             w.unused,
             eq-eqb r.end (Held.end_of fs) w.end,
             eq-eqb r.whole (flag (Held.whole fs)) w.whole,

@@ -46,7 +46,7 @@ unfolding picture_right is_unset tables_given no_fragments blank alike reached
 fresh_well_formed source room b = is_well_formed (fresh source room) (record {
   room = b;
   count = omega arith;
-  in_place_lem = record { order = tt; inside = tt; marked = tt };
+  placed = record { order = tt; inside = tt; marked = tt };
   unused = refl;
   picture = refl;
   end = refl;

@@ -5,7 +5,7 @@ use Rattle.std.proofs.Common.{arith}
 use borrow.Author.Tests.{leb-true, le-leb, eqb-true, eq-eqb}
 use Rattle.fragments.specs.Array.{is_nothing}
 use Rattle.fragments.specs.Held as Held
-use Rattle.fragments.specs.Order.{in_place, InPlace, in_place_lem, is_in_place, reach, reach_within}
+use Rattle.fragments.specs.Order.{in_place, InPlace, known_in_place, is_in_place, reach, reach_within}
 use Rattle.fragments.specs.Shared.{holds}
 use Rattle.fragments.specs.declared.Fragment.{Fragment}
 use Rattle.laws.specs.All.{all}
@@ -102,7 +102,7 @@ fragments_right fs spare room end whole = in_place room fs && all is_nothing spa
 pub record WellFormed (r : Receiver) : Type 0 where
   pub room : Between 1 65536 r.room
   pub count : r.fragment_count ≤ 64
-  pub in_place_lem : InPlace r.room (held_fragments r)
+  pub placed : InPlace r.room (held_fragments r)
   pub unused : all is_nothing (unused r) ≡ true
   pub picture : picture_right r.picture r.time r.fragment_count (header_of r) ≡ true
   pub end : r.end ≡ Held.end_of (held_fragments r)
@@ -111,9 +111,9 @@ pub record WellFormed (r : Receiver) : Type 0 where
   pub whole : r.whole ≡ flag (Held.whole (held_fragments r))
 
 module _ (r : Receiver) where
-  pub well_formed_lem : well_formed r ≡ true → WellFormed r
+  pub known_well_formed : well_formed r ≡ true → WellFormed r
   unfolding well_formed
-  well_formed_lem e =
+  known_well_formed e =
       let fs = held_fragments r in
       let room = is_room r.room in
       let count = is_count r.fragment_count in
@@ -133,7 +133,7 @@ module _ (r : Receiver) where
       record {
         room = between 1 65536 r.room n.0;
         count = leb-true r.fragment_count 64 n.1;
-        in_place_lem = in_place_lem r.room fs h.1;
+        placed = known_in_place r.room fs h.1;
         unused = g.1;
         picture = f.1;
         end = eqb-true r.end (Held.end_of fs) d.1;
@@ -146,7 +146,7 @@ module _ (r : Receiver) where
   unfolding well_formed
   is_well_formed w =
       let fs = held_fragments r in
-      rw (is_within 1 65536 r.room w.room.0 w.room.1, le-leb r.fragment_count 64 w.count, is_in_place r.room fs w.in_place_lem, w.unused, w.picture, eq-eqb r.end (Held.end_of fs) w.end, w.tables, w.kept)
+      rw (is_within 1 65536 r.room w.room.0 w.room.1, le-leb r.fragment_count 64 w.count, is_in_place r.room fs w.placed, w.unused, w.picture, eq-eqb r.end (Held.end_of fs) w.end, w.tables, w.kept)
       (eq-eqb r.whole (flag (Held.whole fs)) w.whole)
 
 -- the flag tells whether the picture is whole
@@ -160,11 +160,11 @@ whole_told {r} w = rw w.whole (flag_told (Held.whole (held_fragments r)))
 -- it holds no more bytes than its room has
 pub held_within_room : {r : Receiver} → WellFormed r → Held.total (held_fragments r) ≤ r.room
 held_within_room {r} w =
-    let p = w.in_place_lem in
+    let p = w.placed in
     omega (arith, Held.total_within 0 r.room (held_fragments r) p.order p.inside (omega arith))
 
 pub reach_within_room : {r : Receiver} → WellFormed r → reach (held_fragments r) ≤ r.room
-reach_within_room {r} w = reach_within r.room (held_fragments r) w.in_place_lem.inside
+reach_within_room {r} w = reach_within r.room (held_fragments r) w.placed.inside
 
 -- a look at a receiver, by whether it is well formed
 module _ (r : Receiver) where

@@ -50,12 +50,12 @@ length_raised place [] = refl
 length_raised zero (n ∷ l) = refl
 length_raised (suc place) (n ∷ l) = ap suc (length_raised place l)
 
-get_d_raised : (l : List ℕ) (place n : ℕ) → n < length l → slice_index (raised place l) n ≡ one_more_if (place == n) (slice_index l n)
-get_d_raised [] place n h = absurd (not-suc-le-zero h)
-get_d_raised (m ∷ l) zero zero h = refl
-get_d_raised (m ∷ l) zero (suc n) h = rw (eqb-zero-suc n)
-get_d_raised (m ∷ l) (suc place) zero h = rw (eqb-suc-zero place)
-get_d_raised (m ∷ l) (suc place) (suc n) h = rw (eqb-suc-suc place n) (get_d_raised l place n (le_of_suc-le-suc h))
+index_raised : (l : List ℕ) (place n : ℕ) → n < length l → slice_index (raised place l) n ≡ one_more_if (place == n) (slice_index l n)
+index_raised [] place n h = absurd (not-suc-le-zero h)
+index_raised (m ∷ l) zero zero h = refl
+index_raised (m ∷ l) zero (suc n) h = rw (eqb-zero-suc n)
+index_raised (m ∷ l) (suc place) zero h = rw (eqb-suc-zero place)
+index_raised (m ∷ l) (suc place) (suc n) h = rw (eqb-suc-suc place n) (index_raised l place n (le_of_suc-le-suc h))
 
 -- A count that one call raises where a test passes says, of any calls, how many pass it.
 module _ (count : Tally → ℕ) (test : Call → Bool) (raises : (t : Tally) (c : Call) → length t.replies ≡ 32 → count (added t c.before c.answer c.after) ≡ one_more_if (test c) (count t)) where
@@ -93,7 +93,7 @@ module _ (calls : List Call) where
   pub each_reply : (n : ℕ) → n < 32 → slice_index (tallied none calls).replies n ≡ counted (how_many (λ (c : Call). nat_eq c.answer.reply n) calls)
   unfolding added
   each_reply n h = counts_all (λ (t : Tally). slice_index t.replies n) (λ (c : Call). nat_eq c.answer.reply n)
-      (λ t c long. get_d_raised t.replies c.answer.reply n (rw long h))
+      (λ t c long. index_raised t.replies c.answer.reply n (rw long h))
       (get_or-replicate 32 n 0 0 h) calls
 
   -- How many of them gave a picture up.

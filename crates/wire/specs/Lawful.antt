@@ -69,16 +69,16 @@ lawful h e =
       no_interval = absent h.interval (restarts_of h.kind) sides.1;
     }
 
-has_interval_lem : (r : Restarts) (interval : ℕ) → is_not_carried r ≡ false → (are_present r ≡ true → Between 1 65535 interval) → (are_present r ≡ false → interval ≡ 0) → has_interval r interval ≡ true
-has_interval_lem Absent interval c some none = eq-eqb interval 0 (none refl)
-has_interval_lem Present interval c some none = is_within 1 65535 interval (some refl).0 (some refl).1
-has_interval_lem NotCarried interval c some none = sym c
+interval_told : (r : Restarts) (interval : ℕ) → is_not_carried r ≡ false → (are_present r ≡ true → Between 1 65535 interval) → (are_present r ≡ false → interval ≡ 0) → has_interval r interval ≡ true
+interval_told Absent interval c some none = eq-eqb interval 0 (none refl)
+interval_told Present interval c some none = is_within 1 65535 interval (some refl).0 (some refl).1
+interval_told NotCarried interval c some none = sym c
 
-pub is_lawful_lem : (h : Header) → Lawful h → is_lawful h ≡ true
+pub lawful_told : (h : Header) → Lawful h → is_lawful h ≡ true
 unfolding is_lawful
-is_lawful_lem h l =
+lawful_told h l =
     rw (l.q, is_within 1 255 h.width l.width.0 l.width.1, is_within 1 255 h.height l.height.0 l.height.1)
-    (has_interval_lem (restarts_of h.kind) h.interval l.kind l.interval l.no_interval)
+    (interval_told (restarts_of h.kind) h.interval l.kind l.interval l.no_interval)
 
 -- each of them is a byte on the wire, but the interval, which is two
 module _ {h : Header} (l : Lawful h) where

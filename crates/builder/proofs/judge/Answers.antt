@@ -2,7 +2,7 @@
 use Rattle.std.proofs.Common.{sym, ◌∙◌}
 use Rattle.laws.specs.Truth.{same, other}
 use Rattle.replies.specs.Checks.{start, passes, fails, none_left}
-use Rattle.state.specs.WellFormed.{well_formed_lem, holds_inspected, not_inspected, whole_told}
+use Rattle.state.specs.WellFormed.{known_well_formed, holds_inspected, not_inspected, whole_told}
 use Rattle.builder.proofs.judge.Goals as goal
 
 pub returns-in_default : goal.returns-in_default
@@ -16,9 +16,9 @@ returns-then-area-receiver c =
 pub returns-then-receiver-ne1 : goal.returns-then-receiver-ne1
 returns-then-receiver-ne1 c =
     let formed = (holds_inspected c.args.receiver (sym c.inspect.ensures.inspects ∙ c.in-Holds.is)).0 in
-    sym (fails (passes (passes start (rw formed)) (same _ _ c.if-area-receiver.false)) (rw (← whole_told (well_formed_lem c.args.receiver formed)) (other _ _ c.if-receiver-ne1.true)))
+    sym (fails (passes (passes start (rw formed)) (same _ _ c.if-area-receiver.false)) (rw (← whole_told (known_well_formed c.args.receiver formed)) (other _ _ c.if-receiver-ne1.true)))
 
 pub returns : goal.returns
 returns c =
     let formed = (holds_inspected c.args.receiver (sym c.inspect.ensures.inspects ∙ c.in-Holds.is)).0 in
-    sym (none_left (passes (passes (passes start (rw formed)) (same _ _ c.if-area-receiver.false)) (rw (← whole_told (well_formed_lem c.args.receiver formed)) (same _ _ c.if-receiver-ne1.false))))
+    sym (none_left (passes (passes (passes start (rw formed)) (same _ _ c.if-area-receiver.false)) (rw (← whole_told (known_well_formed c.args.receiver formed)) (same _ _ c.if-receiver-ne1.false))))

@@ -50,7 +50,7 @@ picture_for-picture-requires c =
 
 pub judge-requires-clause-known : goal.judge-requires-clause-known
 judge-requires-clause-known c = record {
-  well_formed_lem = (holds_inspected c.args.receiver (sym c.in-Holds.ensures.inspects)).0;
+  formed = (holds_inspected c.args.receiver (sym c.in-Holds.ensures.inspects)).0;
   long = c.in-Holds.ensures.fragments_len;
   read = sym c.in-Said.ensures;
 }
@@ -58,7 +58,7 @@ judge-requires-clause-known c = record {
 pub accept-requires-clause-known : goal.accept-requires-clause-known
 accept-requires-clause-known c = (
   record {
-    well_formed_lem = (holds_inspected c.args.receiver (sym c.in-Holds.ensures.inspects)).0;
+    formed = (holds_inspected c.args.receiver (sym c.in-Holds.ensures.inspects)).0;
     long = c.in-Holds.ensures.fragments_len;
     read = sym c.in-Said.ensures;
   },

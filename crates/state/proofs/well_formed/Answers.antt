@@ -3,7 +3,7 @@ use Rattle.std.proofs.Common.{◌≡◌, Bool, true, sym, ap, ◌∙◌, arith, 
 use Rattle.std.proofs.lemmas.Bool.{lt-leb}
 use Rattle.fragments.specs.Array.{Surveys}
 use Rattle.fragments.specs.Held.{start_held}
-use Rattle.fragments.specs.Order.{in_place_lem}
+use Rattle.fragments.specs.Order.{known_in_place}
 use Rattle.fragments.specs.declared.Surveyed.{Surveyed}
 use Rattle.state.specs.Receiver.{held_fragments, unused}
 use Rattle.state.specs.WellFormed.{tables_given}
@@ -14,7 +14,7 @@ use Rattle.state.proofs.well_formed.Goals as goal
 -- the tables are judged by what the survey tells of byte 0
 tabled : {b : Bool} (r : Receiver) (s : Surveyed) → Surveys r.fragments r.fragment_count s → true ≡ fragments_of r → b ≡ tables_given s.from_0 r.q r.tables → b ≡ tables_of r
 tabled r s survey filed e =
-    let order = (in_place_lem r.room (held_fragments r) (are_in_place r (sym filed))).order in
+    let order = (known_in_place r.room (held_fragments r) (are_in_place r (sym filed))).order in
     e
     ∙ ap (λ (s : Surveyed). tables_given s.from_0 r.q r.tables) survey
     ∙ ap (λ (b : Bool). tables_given b r.q r.tables) (sym (start_held (held_fragments r) order))

@@ -58,7 +58,7 @@ place_of-placed-requires-clause-in_order c =
     let a = c.args in
     let count : a.picture.count ≡ (picture_for a.receiver a.said).fragment_count = ap (λ (x : Numbers). x.count) c.requires.picture_value in
     let held : take a.picture.count a.receiver.fragments ≡ held_fragments (picture_for a.receiver a.said) = rw count (picture_fragments a.receiver a.said) in
-    (rw held (picture_in_place a.receiver a.said c.requires.known.well_formed_lem).order, rw held (picture_length c.requires.known ∙ sym count))
+    (rw held (picture_in_place a.receiver a.said c.requires.known.formed).order, rw held (picture_length c.requires.known ∙ sym count))
 
 pub place_of-placed-requires-clause-reach_value : goal.place_of-placed-requires-clause-reach_value
 place_of-placed-requires-clause-reach_value c =

@@ -3,7 +3,7 @@ use Rattle.std.proofs.Common.{◌≡◌, ℕ, Bool, true, false, cond, ◌&&◌,
 use Rattle.std.proofs.lemmas.Bool.{not-true, not-false}
 use Rattle.fragments.specs.Array.{is_nothing, surveyed}
 use Rattle.fragments.specs.Held.{end_of, end_last, reached}
-use Rattle.fragments.specs.Order.{in_place, in_place_lem, in_line, in_line_lem}
+use Rattle.fragments.specs.Order.{in_place, known_in_place, in_line, in_line_in_place}
 use Rattle.fragments.specs.declared.Fragment.{Fragment}
 use Rattle.fragments.specs.declared.Surveyed.{Surveyed}
 use Rattle.laws.specs.All.{all}
@@ -17,8 +17,8 @@ in_line_of s room = s.ordered && leb s.stop room && leb s.marker 1
 
 told : {s : Surveyed} (room end whole : ℕ) (fs behind : List Fragment) → s ≡ surveyed fs behind → (in_line_of s room && s.clear && eqb end (cond (eqb s.marker 1) s.stop 0) && eqb whole (flag (reached end s.bytes))) ≡ fragments_right fs behind room end whole
 unfolding in_line fragments_right
-told room end whole fs behind e = rw (e, in_line_lem room fs) (split (in_place room fs)
-    (λ p. rw (p, ← end_last fs (in_place_lem room fs p).marked) (split (eqb end (end_of fs)) (λ q. rw (eqb-true end (end_of fs) q)) (λ q. rw (q, and_false (all is_nothing behind)))))
+told room end whole fs behind e = rw (e, in_line_in_place room fs) (split (in_place room fs)
+    (λ p. rw (p, ← end_last fs (known_in_place room fs p).marked) (split (eqb end (end_of fs)) (λ q. rw (eqb-true end (end_of fs) q)) (λ q. rw (q, and_false (all is_nothing behind)))))
     (λ p. rw p))
 
 pub returns-then-not-are_in_place : goal.returns-then-not-are_in_place
