@@ -27,7 +27,7 @@ need() {
     shift
     $test && return
     echo "installing $*" >&2
-    { apt-get update -qq && DEBIAN_FRONTEND=noninteractive apt-get install -y -qq --no-install-recommends "$@"; } >/dev/null 2>&1
+    { apt-get update -qq && DEBIAN_FRONTEND=noninteractive apt-get install -y -qq --no-install-recommends "$@"; } >/dev/null 2>&1 || true
     $test && return
     echo "cannot install $* with apt-get: $test still fails" >&2
     return 1

@@ -3,7 +3,7 @@ ghost use Rattle.std.specs.Prelude.{◌≤◌, length};
 
 use crate::text::{Number, number_at};
 
-#[derive(Clone, Copy, Drop)]
+#[derive(Clone, Copy)]
 pub(crate) struct Hex {
     pub(crate) length: usize,
     pub(crate) whole: bool,
@@ -36,7 +36,7 @@ pub(crate) fn read_hex(line: &[u8], at: usize, out: &mut [u8]) -> Hex
     }
 }
 
-#[derive(Clone, Copy, Drop)]
+#[derive(Clone, Copy)]
 enum Run {
     // a byte, how many of it, and the place behind
     Of(u8, usize, usize),

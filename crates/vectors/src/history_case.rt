@@ -8,14 +8,14 @@ use kept::Kept;
 use state::Receiver;
 
 // The session's area is the front of the one that is lent to each line.
-#[derive(Clone, Copy, Drop)]
+#[derive(Clone, Copy)]
 pub(crate) struct Session {
     pub(crate) receiver: Receiver,
     pub(crate) length: usize,
 }
 
 // The session behind a line, which is as it was where the line is no case.
-#[derive(Clone, Copy, Drop)]
+#[derive(Clone, Copy)]
 pub(crate) struct Ran {
     pub(crate) session: Session,
     pub(crate) is_case: bool,

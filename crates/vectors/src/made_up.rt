@@ -8,7 +8,7 @@ use fragments::Fragment;
 use kept::Kept;
 use state::Receiver;
 
-#[derive(Clone, Copy, Drop)]
+#[derive(Clone, Copy)]
 pub(crate) struct MadeUp {
     pub(crate) receiver: Receiver,
     pub(crate) complete: bool,
@@ -49,7 +49,7 @@ pub(crate) fn none() -> MadeUp {
     }
 }
 
-#[derive(Clone, Copy, Drop)]
+#[derive(Clone, Copy)]
 enum Change {
     // the first place, how many, their value, and the place of the line behind
     Of(u32, u32, u32, usize),

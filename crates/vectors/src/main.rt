@@ -32,7 +32,7 @@ fn main(rt: HostRuntime) {
     }
 }
 
-#[derive(Clone, Copy, Drop)]
+#[derive(Clone, Copy)]
 struct Turn {
     session: Session,
     ended: bool,

@@ -4,7 +4,7 @@ use crate::hex::read_hex;
 use crate::text::{Number, begins, next_number, write_bytes, write_number};
 use wire::{Packet, Reading};
 
-#[derive(Clone, Copy, Drop)]
+#[derive(Clone, Copy)]
 enum Shown {
     Fields,
     Tables,

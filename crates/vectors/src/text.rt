@@ -3,7 +3,7 @@ ghost use Rattle.std.specs.Prelude.{◌≤◌, length};
 
 use std::io::Read;
 
-#[derive(Clone, Copy, Drop)]
+#[derive(Clone, Copy)]
 pub(crate) struct Line {
     pub(crate) length: usize,
     pub(crate) ended: bool,
@@ -33,7 +33,7 @@ pub(crate) fn read_line(input: &mut impl Read, buffer: &mut [u8]) -> Line
     }
 }
 
-#[derive(Clone, Copy, Drop)]
+#[derive(Clone, Copy)]
 enum Byte {
     Of(u8),
     End,
@@ -55,7 +55,7 @@ pub(crate) fn begins(line: &[u8], word: &[u8]) -> bool {
     slices::are_same(&line[0..n], word)
 }
 
-#[derive(Clone, Copy, Drop)]
+#[derive(Clone, Copy)]
 pub(crate) enum Number {
     // a number of 32 bits, and the place behind it
     Of(u32, usize),
@@ -105,7 +105,7 @@ pub(crate) fn next_number(line: &[u8], at: usize) -> Number {
     }
 }
 
-#[derive(Clone, Copy, Drop)]
+#[derive(Clone, Copy)]
 pub(crate) enum Place {
     At(usize),
     None,
