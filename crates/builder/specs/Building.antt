@@ -7,8 +7,8 @@ use Rattle.head.specs.declared.Frame.{Frame}
 use Rattle.laws.specs.Truth.{never_both, are_same}
 use Rattle.replies.specs.Checks.{Check, judged, ◌when◌, all_hold}
 use Rattle.replies.specs.Output.{Decision, Writes, decided}
-use Rattle.replies.specs.Reply
-use Rattle.replies.specs.declared.Judged.TheVariants.{Passed}
+use Rattle.replies.specs.declared.Refusal.TheVariants as Refusal
+use Rattle.replies.specs.Checks.{Passed}
 use Rattle.replies.specs.declared.Written.{Written}
 use Rattle.state.specs.Receiver.{held_fragments, header_of}
 use Rattle.state.specs.WellFormed.{well_formed, WellFormed, known_well_formed, held_within_room, some_held}
@@ -19,13 +19,13 @@ use Rattle.builder.specs.File.{file}
 
 -- 9, 8 and 30, in their order; 31 is against the file's own length.
 abbrev pub formed_check : Receiver → Check
-formed_check r = Reply.not_well_formed when not (well_formed r)
+formed_check r = Refusal.NotWellFormed when not (well_formed r)
 
 abbrev pub room_check : Receiver → List ℕ → Check
-room_check r area = Reply.area_not_room when not (eqb (length area) r.room)
+room_check r area = Refusal.AreaNotRoom when not (eqb (length area) r.room)
 
 abbrev pub whole_check : Receiver → Check
-whole_check r = Reply.not_whole when not (Held.whole (held_fragments r))
+whole_check r = Refusal.NotWhole when not (Held.whole (held_fragments r))
 
 abbrev pub checks : Receiver → List ℕ → List Check
 checks r area = formed_check r ∷ room_check r area ∷ whole_check r ∷ []
@@ -50,7 +50,7 @@ building r area = decided (judged (checks r area)) (file_of r area)
 
 -- The outcome of `build`.
 abbrev pub Builds : Receiver → List ℕ → List ℕ → Written → List ℕ → Type 0
-Builds r area before w after = Writes Reply.file_output (building r area) before w after
+Builds r area before w after = Writes Refusal.FileOutput (building r area) before w after
 
 -- What the checks leave: a well-formed receiver with its area, and a whole picture.
 pub record Buildable (r : Receiver) (area : List ℕ) : Type 0 where

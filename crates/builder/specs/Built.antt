@@ -10,7 +10,7 @@ use Rattle.laws.specs.Within.{within}
 use Rattle.replies.specs.Checks.{judged, neither, neither_9_nor_8, start, passes, none_left}
 use Rattle.replies.specs.Output.{decided, succeeded, reply_by, success_checked}
 use Rattle.replies.specs.Reply
-use Rattle.replies.specs.declared.Judged.TheVariants.{Passed}
+use Rattle.replies.specs.Checks.{Passed}
 use Rattle.replies.specs.declared.Written.{Written}
 use Rattle.state.specs.WellFormed.{well_formed, is_well_formed}
 use Rattle.state.specs.declared.Receiver.{Receiver}

@@ -13,7 +13,7 @@ pub(crate) fn length(scan: &[u8]) -> usize
     if is_closed(scan) {
         scan.len()
     } else {
-        scan.len() + 2
+        scan.len() + CLOSING.len()
     }
 }
 
@@ -22,21 +22,14 @@ pub(crate) fn put(scan: &[u8], at: usize, out: &mut [u8])
     ensures { Puts out.old at (body scan.now) out.new }
 {
     slices::put(scan, at, out);
-    if is_closed(scan) {
-        return;
+    if !is_closed(scan) {
+        slices::put(&CLOSING, at + scan.len(), out);
     }
-    let closing = CLOSING;
-    slices::put(&closing, at + scan.len(), out);
 }
 
 // Whether the scan's last two bytes are FF D9 already.
 fn is_closed(scan: &[u8]) -> bool
     ensures { result ≡ is_closed scan.now }
 {
-    if scan.len() < 2 {
-        return false;
-    }
-    let last = slices::part(scan, scan.len() - 2, 2);
-    let closing = CLOSING;
-    slices::are_same(last, &closing)
+    scan.ends_with(&CLOSING)
 }

@@ -5,50 +5,44 @@ mod body;
 
 ghost use Rattle.std.specs.Prelude.{◌≤◌, ◌≡◌, length};
 ghost use Rattle.replies.specs.Checks.{judged};
-ghost use Rattle.replies.specs.Output.{Writes};
+ghost use Rattle.replies.specs.Output.{Writes, written};
 ghost use Rattle.replies.specs.Output.Decision.{write};
-ghost use Rattle.replies.specs.Reply.{file_output};
+ghost use Rattle.replies.specs.declared.Refusal.TheVariants.{FileOutput};
 ghost use Rattle.state.specs.Receiver.{header_of};
 ghost use Rattle.wire.specs.Lawful.{Lawful};
 ghost use Rattle.builder.specs.Building.{Builds, checks, frame_of};
 ghost use Rattle.builder.specs.File.{file};
 
 use head::Frame;
-use replies::{AREA_NOT_ROOM, FILE_OUTPUT, Judged, NOT_WELL_FORMED, NOT_WHOLE, Written};
-use state::{Inspected, Receiver};
+use replies::Refusal;
+use state::Receiver;
 
 // Writes the file of the receiver's picture into the front of `out`; the scan is in the receiver's area.
-pub fn build(receiver: Receiver, area: &[u8], out: &mut [u8]) -> Written
-    ensures { Builds receiver area.now out.old result out.new }
+pub fn build(receiver: &Receiver, area: &[u8], out: &mut [u8]) -> Result<u32, Refusal>
+    ensures { Builds receiver.now area.now out.old (written result) out.new }
 {
-    if let Judged::Refused(number) = judge(receiver, area) {
-        return Written::refusal(number);
-    }
-    let frame = frame_of(receiver);
-    let tables = receiver.tables;
-    let end = receiver.end as usize;
-    write_file(frame, tables, slices::part(area, 0, end), out)
+    judge(receiver, area)?;
+    let scan = slices::part(area, 0, receiver.end as usize);
+    write_file(frame_of(receiver), &receiver.tables, scan, out)
 }
 
 // Whether there is a whole picture to build.
-fn judge(receiver: Receiver, area: &[u8]) -> Judged
-    ensures { result ≡ judged (checks receiver area.now) }
+fn judge(receiver: &Receiver, area: &[u8]) -> Result<(), Refusal>
+    ensures { result ≡ judged (checks receiver.now area.now) }
 {
-    let Inspected::Holds(_, _) = state::inspect(receiver) else {
-        return Judged::Refused(NOT_WELL_FORMED);
-    };
+    state::inspect(receiver)?;
     if area.len() != receiver.room as usize {
-        return Judged::Refused(AREA_NOT_ROOM);
+        return Err(Refusal::AreaNotRoom);
     }
     if receiver.whole != 1 {
-        return Judged::Refused(NOT_WHOLE);
+        return Err(Refusal::NotWhole);
     }
-    Judged::Passed
+    Ok(())
 }
 
-fn frame_of(receiver: Receiver) -> Frame
-    requires { Lawful (header_of receiver) }
-    ensures { result ≡ frame_of receiver }
+fn frame_of(receiver: &Receiver) -> Frame
+    requires { Lawful (header_of receiver.now) }
+    ensures { result ≡ frame_of receiver.now }
 {
     Frame {
         kind: receiver.kind as u8,
@@ -59,16 +53,16 @@ fn frame_of(receiver: Receiver) -> Frame
 }
 
 // The head and the body, where both fit.
-fn write_file(frame: Frame, tables: [u8; 128], scan: &[u8], out: &mut [u8]) -> Written
+fn write_file(frame: Frame, tables: &[u8; 128], scan: &[u8], out: &mut [u8]) -> Result<u32, Refusal>
     requires { length scan.now ≤ 65536 }
-    ensures { Writes file_output (write (file frame tables scan.now)) out.old result out.new }
+    ensures { Writes FileOutput (write (file frame tables.now scan.now)) out.old (written result) out.new }
 {
     let head = head::length(frame.interval);
     let length = head + body::length(scan);
     if out.len() < length {
-        return Written::refusal(FILE_OUTPUT);
+        return Err(Refusal::FileOutput);
     }
     head::put(frame, tables, out);
     body::put(scan, head, out);
-    Written::success(length as u32)
+    Ok(length as u32)
 }

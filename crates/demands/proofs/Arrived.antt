@@ -1,6 +1,6 @@
 -- The receiver and its area when some of a picture's packets have come, as a function of which ones alone. Assumes nothing.
 use Rattle.std.proofs.Common.{ap, ap₂, ◌∙◌, arith}
-use Rattle.std.specs.Prelude.{ℕ, Bool, List, ◌≡◌, refl, length}
+use Rattle.std.specs.Prelude.{ℕ, Bool, List, ◌≡◌, refl, length, Ok as Said, Err as Refused}
 use Rattle.fragments.specs.Array.{held_padded}
 use Rattle.receiver.proofs.Laws.{Taken, read_first, judged_on, when_left, taken_when}
 use Rattle.receiver.specs.Picture.{picture_held}
@@ -13,10 +13,8 @@ use Rattle.state.specs.Receiver.{held_fragments}
 use Rattle.state.specs.declared.Receiver.{Receiver}
 use Rattle.wire.specs.Field.{Bytes}
 use Rattle.wire.specs.Readable.{read_packet}
-use Rattle.wire.specs.Reading.{reading}
+use Rattle.wire.specs.Reading.{Reading, reading}
 use Rattle.wire.specs.declared.Packet.{Packet}
-use Rattle.wire.specs.declared.Reading.TheVariants as Answer
-use Rattle.wire.specs.declared.Reading.{Reading}
 use Rattle.demands.proofs.Filled.{length_filled}
 use Rattle.demands.proofs.History.{accepted_small}
 use Rattle.demands.specs.Arrived.{Begun, receiver_with, area_with, arrived, Ok}
@@ -54,10 +52,10 @@ module _ (g : Begun) (come : List Bool) (ok : Ok g come) where
 
   -- Another packet changes nothing: the reader refuses it, or it is past.
   module _ (q : List ℕ) (bytes : Bytes q) (harmless : Harmless g.stamp q) where
-    when_older : (t : Packet) → reading r.source q ≡ Answer.Said t → decision r area q ≡ leave Reply.past
+    when_older : (t : Packet) → reading r.source q ≡ Said t → decision r area q ≡ leave Reply.past
     unfolding judged
     when_older t e =
-        let read : reading g.stamp.source q ≡ Answer.Said t = rw g.source e in
+        let read : reading g.stamp.source q ≡ Said t = rw g.source e in
         let h = harmless t read in
         let behind = behind_else t.time g.stamp.time (read_packet g.stamp.source q t read bytes).time g.packets.sendable.time h.0 h.1 in
         judged_on r area q ok.1 area_lent e (picture_held r t (rw g.time at h.1)) ∙ rw (rw g.time at behind)
@@ -66,5 +64,5 @@ module _ (g : Begun) (come : List Bool) (ok : Ok g come) where
     other_comes = go (reading r.source q) refl
       where
         go : (a : Reading) → reading r.source q ≡ a → LeavesAll step (arrived g come) q
-        go (Answer.Refused n) e = leaves_all r area q (read_first r area q ok.1 area_lent ∙ ap (judged_read r area q) e)
-        go (Answer.Said t) e = leaves_all r area q (when_older t e)
+        go (Refused n) e = leaves_all r area q (read_first r area q ok.1 area_lent ∙ ap (judged_read r area q) e)
+        go (Said t) e = leaves_all r area q (when_older t e)

@@ -2,15 +2,16 @@
 use Rattle.std.proofs.Common.{sym, ap, ◌∙◌}
 use Rattle.std.specs.Prelude.{ℕ, List, ◌≡◌}
 use Rattle.receiver.specs.declared.Received.{Received}
-use Rattle.replies.specs.Output.{Decision, Writes, writes_determined}
+use Rattle.replies.specs.Output.{Decision, Writes, writes_determined, outcome_told}
+use Rattle.replies.specs.declared.Refusal.{Refusal}
 use Rattle.text.specs.FileName.{names_determined}
-use Rattle.demands.specs.Determined.{Determines, DeterminesBoth, RefusalIsDetermined, SuccessIsDetermined, MakeTablesIsDetermined, ReadIsDetermined, ScanIsDetermined, TablesIsDetermined, RestartsOfIsDetermined, TableSourceIsDetermined, IsLawfulIsDetermined, AreFullIsDetermined, PartIsDetermined, PutIsDetermined, AreSameIsDetermined, PacketIsDetermined, NoFragmentsIsDetermined, SurveyIsDetermined, PlaceIsDetermined, InsertIsDetermined, NoneIsDetermined, HasIsDetermined, FindIsDetermined, KeepIsDetermined, WellKeptIsDetermined, IsBlankIsDetermined, OpensIsDetermined, InspectIsDetermined, WholeFlagIsDetermined, ReceiveIsDetermined, ReceiveInPlaceIsDetermined, HeadLengthIsDetermined, PutHeadIsDetermined, BuildIsDetermined, RecordLengthIsDetermined, TakeRecordIsDetermined, NoCountsIsDetermined, AddCountIsDetermined, CloseCountsIsDetermined, AcceptedIsDetermined, NumberIsDetermined, FileNameIsDetermined}
+use Rattle.demands.specs.Determined.{Determines, DeterminesBoth, RefusalIsDetermined, SuccessIsDetermined, RefusalNumberIsDetermined, OutcomesAreTold, MakeTablesIsDetermined, ReadIsDetermined, ScanIsDetermined, TablesIsDetermined, RestartsOfIsDetermined, TableSourceIsDetermined, IsLawfulIsDetermined, AreFullIsDetermined, PartIsDetermined, PutIsDetermined, AreSameIsDetermined, PacketIsDetermined, NoFragmentsIsDetermined, SurveyIsDetermined, PlaceIsDetermined, InsertIsDetermined, NoneIsDetermined, HasIsDetermined, FindIsDetermined, KeepIsDetermined, WellKeptIsDetermined, IsBlankIsDetermined, OpensIsDetermined, InspectIsDetermined, WholeFlagIsDetermined, ReceiveIsDetermined, ReceiveInPlaceIsDetermined, HeadLengthIsDetermined, PutHeadIsDetermined, BuildIsDetermined, RecordLengthIsDetermined, TakeRecordIsDetermined, TakeNextIsDetermined, NoCountsIsDetermined, AddCountIsDetermined, CloseCountsIsDetermined, AcceptedIsDetermined, NumberIsDetermined, FileNameIsDetermined}
 
 -- an outcome that has to equal a definition is determined, and so is that of a call that writes into an output
 only : {A : Type 0} {d : A} → Determines (λ (x : A). x ≡ d)
 only x x' a b = a ∙ sym b
 
-written : {short : ℕ} {d : Decision} {before : List ℕ} → DeterminesBoth (Writes short d before)
+written : {short : Refusal} {d : Decision} {before : List ℕ} → DeterminesBoth (Writes short d before)
 written w w' after after' a b = writes_determined a b
 
 -- `replies::Written::refusal` and `replies::Written::success`
@@ -19,6 +20,13 @@ refusal n = only
 
 pub success : SuccessIsDetermined
 success n = only
+
+-- `replies::Refusal::number`, and that C is told by it which outcome it was
+pub refusal_number : RefusalNumberIsDetermined
+refusal_number r = only
+
+pub outcomes : OutcomesAreTold
+outcomes = outcome_told
 
 -- `tables::make_tables`, and `ljosvark::lj_make_tables`, which has the same contract: the answer and the output
 pub make_tables : MakeTablesIsDetermined
@@ -130,6 +138,11 @@ record_length bytes = only
 
 pub take_record : TakeRecordIsDetermined
 take_record r area bytes t t' after after' a b = (only t t' a.taken b.taken, only after after' a.lent b.lent)
+
+-- `records::take_next`: the bytes that came decide the rest
+pub take_next : TakeNextIsDetermined
+take_next left r area bytes t t' after after' a b =
+    take_record r area bytes t t' after after' (rw a.3 at a.2.takes) (rw b.3 at b.2.takes)
 
 -- the counts of a run: `tally::none`, `tally::add`, `tally::close` and `tally::accepted`
 pub no_counts : NoCountsIsDetermined

@@ -1,7 +1,7 @@
 -- One packet more of a picture that a receiver has begun: what it makes of the receiver depends only on which have come. Assumes nothing.
 use Rattle.std.proofs.Common.{sym, ap, ap₂, subst, ◌∙◌, arith, le-ltb, eqb-true, length-set}
 use Rattle.std.proofs.lemmas.Bool.{lt-leb}
-use Rattle.std.specs.Prelude.{ℕ, ◌<◌, Bool, ◌&&◌, ◌||◌, List, ◌≡◌, length, set, true, false, eqb, get_or}
+use Rattle.std.specs.Prelude.{ℕ, ◌<◌, Bool, ◌&&◌, ◌||◌, List, ◌≡◌, length, set, true, false, eqb, get_or, Ok as Said}
 use Rattle.fragments.specs.Array.{held_padded}
 use Rattle.fragments.specs.Clash.{clashes, Clear, is_clear}
 use Rattle.fragments.specs.Fragments.{stop, fragment_at, bytes_of}
@@ -33,7 +33,6 @@ use Rattle.state.specs.declared.Receiver.{Receiver}
 use Rattle.wire.specs.Reading.{reading, scan_in}
 use Rattle.wire.specs.declared.Header.{Header}
 use Rattle.wire.specs.declared.Packet.{Packet}
-use Rattle.wire.specs.declared.Reading.TheVariants as Answer
 use Rattle.demands.proofs.Arrived.{leaves, area_lent, held_cuts}
 use Rattle.demands.proofs.CutsIn.{any_cut, length_cuts_in, cut_inserted, cut_clear, whole_in}
 use Rattle.demands.proofs.Filled.{put_filled, bytes_filled}
@@ -81,7 +80,7 @@ module _ (g : Begun) (come : List Bool) (ok : Ok g come) (k : ℕ) (i : k < leng
     abbrev said : Packet
     said = told.said
 
-    read_by : (r₀ : Receiver) → g.stamp.source ≡ r₀.source → reading r₀.source bytes ≡ Answer.Said said
+    read_by : (r₀ : Receiver) → g.stamp.source ≡ r₀.source → reading r₀.source bytes ≡ Said said
     read_by r₀ source = ap (λ (n : ℕ). reading n bytes) (sym source) ∙ told.read
 
     same_time : said.time ≡ g.receiver.time

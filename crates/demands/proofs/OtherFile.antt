@@ -13,7 +13,7 @@ use Rattle.laws.specs.All.{all_each}
 use Rattle.laws.specs.Each.{Each}
 use Rattle.laws.specs.Truth.{and_true}
 use Rattle.replies.specs.Output.{Decision, fitted, answer_of, output_of}
-use Rattle.replies.specs.Reply
+use Rattle.replies.specs.declared.Refusal.TheVariants as Refusal
 use Rattle.replies.specs.declared.Written.{Written}
 use Rattle.sender.specs.Picture.{Picture}
 use Rattle.state.specs.Receiver.{held_fragments}
@@ -36,7 +36,7 @@ module _ (p : Picture) (x : State) (holds : FileHolds p x) where
   theirs = file (frame_for p.header) (those_tables p) p.scan
 
   abbrev decided : Decision
-  decided = fitted Reply.file_output theirs (building x.receiver x.area)
+  decided = fitted Refusal.FileOutput theirs (building x.receiver x.area)
 
   builds : Builds x.receiver x.area theirs (answer_of decided) (output_of theirs decided)
   builds = record { answer = refl; output = refl }

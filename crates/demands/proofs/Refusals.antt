@@ -13,6 +13,8 @@ use Rattle.replies.specs.Checks.{Check, judged, numbered}
 use Rattle.replies.specs.Output.{Writes, decided, refusal_leaves, reply_by}
 use Rattle.replies.specs.Reply
 use Rattle.replies.specs.declared.Written.{Written}
+use Rattle.replies.specs.declared.Refusal.{Refusal}
+use Rattle.replies.specs.Refusal.{number}
 use Rattle.sender.specs.Cuts.{cuts}
 use Rattle.sender.specs.Packet as Packet
 use Rattle.sender.specs.Sending as Sending
@@ -29,7 +31,7 @@ use Rattle.demands.specs.History.{State, state, packet_in, answer_in}
 use Rattle.demands.specs.Refusals.{of_tables, of_sender, of_builder, of_reader, unchanging, is_one_of, Refused, TablesRefuse, SenderRefuses, BuilderRefuses, ReaderRefuses, OpeningRefuses, ReceiverRefuses, CallsLeaveAll, RecordsLeaveAll}
 
 -- where checks decide
-refused : {short : ℕ} {before after : List ℕ} {w : Written} (numbers : List ℕ) (checks : List Check) (bytes : List ℕ) → Writes short (decided (judged checks) bytes) before w after → is_one_of (Reply.success ∷ numbers) short ≡ true → numbered (is_one_of (Reply.success ∷ numbers)) checks ≡ true → (w.reply ≡ Reply.success → ⊥) → Refused numbers before w after
+refused : {short : Refusal} {before after : List ℕ} {w : Written} (numbers : List ℕ) (checks : List Check) (bytes : List ℕ) → Writes short (decided (judged checks) bytes) before w after → is_one_of (Reply.success ∷ numbers) (number short) ≡ true → numbered (is_one_of (Reply.success ∷ numbers)) checks ≡ true → (w.reply ≡ Reply.success → ⊥) → Refused numbers before w after
 refused {w = w} numbers checks bytes a full all refuses =
     let l = refusal_leaves a refuses in
     record {
@@ -55,9 +57,9 @@ build r area before w after a refuses = refused of_builder (Building.checks r ar
 
 -- `wire::read`, which is lent nothing to write
 pub read : ReaderRefuses
-read source packet n a = read_refused source packet (is_one_of of_reader) refl (sym a)
+read source packet r a = read_refused source packet (is_one_of of_reader) refl (sym a)
 
--- `state::open` and `ljosvark::lj_open`: 7, and the fresh receiver that document 01 asks for
+-- `state::open` and `ljosvark::lj_open`: 7, and a fresh receiver of room 0
 pub opens : OpeningRefuses
 opens source room o a refuses = split (is_room room)
     (λ e. absurd (refuses (ap (λ (x : Opened). x.answer.reply) a ∙ rw (opens-when source room (between 1 65536 room e)))))

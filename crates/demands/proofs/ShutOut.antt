@@ -8,7 +8,7 @@ use Rattle.receiver.specs.Picture.{starts}
 use Rattle.receiver.specs.Step.{held, received}
 use Rattle.receiver.specs.declared.Received.{Received}
 use Rattle.replies.specs.Output.{fitted, answer_of, succeeded}
-use Rattle.replies.specs.Reply
+use Rattle.replies.specs.declared.Refusal.TheVariants as Refusal
 use Rattle.replies.specs.declared.Written.{Written}
 use Rattle.sender.specs.Sending.{sending}
 use Rattle.state.specs.Receiver.{fresh}
@@ -84,7 +84,7 @@ record Claimed (takes : Receiver → Packet → Bool) : Type 0 where
 
 -- What our sender answers when it is asked for packet k of document 01's picture of 173 bytes, which it cuts in two.
 abbrev asked_for : ℕ → Written
-asked_for k = answer_of (fitted Reply.packet_output (replicate 192 0) (sending (plain 173) 192 stamp k))
+asked_for k = answer_of (fitted Refusal.PacketOutput (replicate 192 0) (sending (plain 173) 192 stamp k))
 
 -- What the definitions come to.
 record Computed : Type 0 where

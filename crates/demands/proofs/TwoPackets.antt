@@ -8,7 +8,7 @@ use Rattle.laws.specs.Truth.{or_true}
 use Rattle.laws.specs.Within.{within}
 use Rattle.receiver.specs.Time.{ahead}
 use Rattle.replies.specs.Checks.{judged}
-use Rattle.replies.specs.declared.Judged.TheVariants.{Passed}
+use Rattle.replies.specs.Checks.{Passed}
 use Rattle.sender.specs.Cuts.{cuts}
 use Rattle.sender.specs.Packet as Sender
 use Rattle.sender.specs.Picture.{Picture}

@@ -1,12 +1,13 @@
 -- The cases that document 01 marks with a star under "Both sides of each line", as one table that the checker computes.
 -- Assumes nothing.
-use Rattle.std.specs.Prelude.{ℕ, ◌+◌, ◌-◌, ◌^◌, true, false, [], ◌∷◌, ◌≡◌, get_or, replicate}
+use Rattle.std.specs.Prelude.{ℕ, ◌+◌, ◌-◌, ◌^◌, true, false, [], ◌∷◌, ◌≡◌, get_or, replicate, Err}
 use Rattle.fragments.specs.declared.Fragment.{Fragment}
 use Rattle.receiver.specs.Picture.{begun, starts}
 use Rattle.receiver.specs.Time.{is_newer}
 use Rattle.receiver.specs.Verdict.{verdict}
 use Rattle.replies.specs.Checks.{judged}
-use Rattle.replies.specs.declared.Judged.TheVariants.{Passed, Refused}
+use Rattle.replies.specs.Checks.{Passed}
+use Rattle.replies.specs.declared.Refusal.TheVariants as Refusal
 use Rattle.sender.specs.Cuts.{cuts}
 use Rattle.sender.specs.Picture.{Picture, picture}
 use Rattle.sender.specs.Sending.{checks}
@@ -57,16 +58,16 @@ pub record BothSides : Type 0 where
   pub q_51_chroma_63 : chroma 51 63 ≡ 97
   pub scan_172 : cuts 192 (plain 172) ≡ cut 0 172 1 ∷ []
   pub scan_172_packet_0 : judged (checks (plain 172) 192 0) ≡ Passed
-  pub scan_172_packet_1 : judged (checks (plain 172) 192 1) ≡ Refused 45
+  pub scan_172_packet_1 : judged (checks (plain 172) 192 1) ≡ Err Refusal.IndexTooLarge
   pub scan_173 : cuts 192 (plain 173) ≡ cut 0 172 0 ∷ cut 172 1 1 ∷ []
   pub scan_173_packet_1 : judged (checks (plain 173) 192 1) ≡ Passed
-  pub scan_173_packet_2 : judged (checks (plain 173) 192 2) ≡ Refused 45
+  pub scan_173_packet_2 : judged (checks (plain 173) 192 2) ≡ Err Refusal.IndexTooLarge
   pub tables_in_the_first : cuts 192 (bringing 205) ≡ cut 0 36 0 ∷ cut 36 168 0 ∷ cut 204 1 1 ∷ []
   pub tables_packet_2 : judged (checks (bringing 205) 192 2) ≡ Passed
-  pub tables_packet_3 : judged (checks (bringing 205) 192 3) ≡ Refused 45
+  pub tables_packet_3 : judged (checks (bringing 205) 192 3) ≡ Err Refusal.IndexTooLarge
   pub across_2^32 : is_newer 0 0xFFFFFFFF ≡ true
   pub across_2^32_starts : starts (held_at 0xFFFFFFFF) (stamped 0) ≡ true
   pub half_way_less_1 : is_newer (2 ^ 31 - 1) 0 ≡ true
   pub half_way_less_1_starts : starts (held_at 0) (stamped (2 ^ 31 - 1)) ≡ true
   pub half_way : is_newer (2 ^ 31) 0 ≡ false
-  pub half_way_past : verdict (held_at 0) [] [] (stamped (2 ^ 31)) ≡ Refused 22
+  pub half_way_past : verdict (held_at 0) [] [] (stamped (2 ^ 31)) ≡ Err Refusal.Past

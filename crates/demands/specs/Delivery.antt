@@ -1,6 +1,6 @@
 -- Demand 3, delivery: what is asked of what arrives, and what then holds. Definitions alone; `Demand3` has the theorems. Assumes
 -- nothing.
-use Rattle.std.specs.Prelude.{ℕ, ◌^◌, ◌≤◌, ◌<◌, Bool, true, false, cond, not, List, [], ◌∷◌, ◌++◌, map, ◌⊎◌, ◌≡◌, eqb, length, take}
+use Rattle.std.specs.Prelude.{ℕ, ◌^◌, ◌≤◌, ◌<◌, Bool, true, false, cond, not, List, [], ◌∷◌, ◌++◌, map, ◌⊎◌, ◌≡◌, eqb, length, take, Ok}
 use Rattle.builder.specs.Building.{Builds, frame_for}
 use Rattle.builder.specs.Built.{WritesFile}
 use Rattle.fragments.specs.Fragments.{fragment_at}
@@ -22,7 +22,6 @@ use Rattle.tables.specs.Quantiser.{tables_of}
 use Rattle.wire.specs.Field.{Bytes}
 use Rattle.wire.specs.Reading.{reading}
 use Rattle.wire.specs.declared.Packet.{Packet}
-use Rattle.wire.specs.declared.Reading.TheVariants as Answer
 use Rattle.demands.specs.History.{State, state, NotAccepted, Outcome, after}
 
 -- ---- what arrives
@@ -76,7 +75,7 @@ pub data Arrival : Type 0 where
 -- "No other packet of that time or a newer one arrives from that source": a reader of that source does not read any other packet as one.
 -- What it refuses may be anything.
 abbrev pub Harmless : Stamp → List ℕ → Type 0
-Harmless s q = (said : Packet) → reading s.source q ≡ Answer.Said said → (said.time ≡ s.time → ⊥) × (is_newer said.time s.time ≡ false)
+Harmless s q = (said : Packet) → reading s.source q ≡ Ok said → (said.time ≡ s.time → ⊥) × (is_newer said.time s.time ≡ false)
 
 -- What may come for a picture of n packets.
 abbrev pub Allowed : Stamp → ℕ → Arrival → Type 0

@@ -6,7 +6,7 @@ use Rattle.fragments.specs.declared.Fragment.{Fragment}
 use Rattle.receiver.specs.Step.{Receives}
 use Rattle.replies.specs.Checks.{judged}
 use Rattle.replies.specs.Reply
-use Rattle.replies.specs.declared.Judged.TheVariants.{Passed}
+use Rattle.replies.specs.Checks.{Passed}
 use Rattle.replies.specs.declared.Written.{Written}
 use Rattle.sender.specs.Cuts.{cuts}
 use Rattle.sender.specs.Packet.{packet}

@@ -1,5 +1,5 @@
 -- Any two outcomes of a public function that satisfy its contract, at the same inputs, are equal. Assumes nothing.
-use Rattle.std.specs.Prelude.{◌≡◌, ℕ, List}
+use Rattle.std.specs.Prelude.{◌≡◌, ℕ, List, Option, Result, take}
 use Rattle.builder.specs.Building.{Builds}
 use Rattle.fragments.specs.Array.{Surveys, Places, PutsIn, HasNone}
 use Rattle.fragments.specs.declared.Fragment.{Fragment}
@@ -9,8 +9,12 @@ use Rattle.kept.specs.Kept.{IsNone, TellsHas, Finds, Keeps, TellsWell, TellsBlan
 use Rattle.kept.specs.declared.Kept.{Kept}
 use Rattle.receiver.specs.Step.{Receives}
 use Rattle.records.specs.Framing.{TellsRecordLength}
+use Rattle.records.specs.Reading.{TakesNext}
 use Rattle.records.specs.Taking.{Takes}
-use Rattle.replies.specs.Output.{IsRefusal, IsSuccess}
+use Rattle.records.specs.declared.Taken.{Taken}
+use Rattle.replies.specs.Output.{IsRefusal, IsSuccess, written}
+use Rattle.replies.specs.Refusal.{HasNumber}
+use Rattle.replies.specs.declared.Refusal.{Refusal}
 use Rattle.sender.specs.Picture.{Picture}
 use Rattle.sender.specs.Sending.{Sends}
 use Rattle.sender.specs.declared.Stamp.{Stamp}
@@ -50,6 +54,14 @@ RefusalIsDetermined = (n : ℕ) → Determines (IsRefusal n)
 
 abbrev pub SuccessIsDetermined : Type 0
 SuccessIsDetermined = (n : ℕ) → Determines (IsSuccess n)
+
+-- `replies::Refusal::number`, and that C is told by it which outcome it was: no two outcomes of `tables::make_tables`, `sender::packet`
+-- and `builder::build` are answered alike
+abbrev pub RefusalNumberIsDetermined : Type 0
+RefusalNumberIsDetermined = (r : Refusal) → Determines (HasNumber r)
+
+abbrev pub OutcomesAreTold : Type 0
+OutcomesAreTold = (o o' : Result ℕ Refusal) → written o ≡ written o' → o ≡ o'
 
 -- `tables::make_tables`, and `ljosvark::lj_make_tables`, which has the same contract: the answer and the output
 abbrev pub MakeTablesIsDetermined : Type 0
@@ -159,6 +171,10 @@ RecordLengthIsDetermined = (bytes : List ℕ) → Determines (TellsRecordLength 
 
 abbrev pub TakeRecordIsDetermined : Type 0
 TakeRecordIsDetermined = (r : Receiver) (area bytes : List ℕ) → DeterminesBoth (Takes r area bytes)
+
+-- `records::take_next`: the input decides which bytes come, and they decide the rest
+abbrev pub TakeNextIsDetermined : Type 0
+TakeNextIsDetermined = (left : Option (List ℕ)) (r : Receiver) (area bytes : List ℕ) → DeterminesBoth (λ (t : Taken) (after : List ℕ). (buffer : List ℕ) × (left_after : Option (List ℕ)) × (came : TakesNext left r area buffer t after left_after) × (take came.n buffer ≡ bytes))
 
 -- the counts of a run: `tally::none`, `tally::add`, `tally::close` and `tally::accepted`
 abbrev pub NoCountsIsDetermined : Type 0

@@ -1,6 +1,6 @@
 -- What the last sentence of demand 3 says: "Under any such history, a whole picture has no gap, and each byte is what a packet
 -- accepted for it brought for that place." Definitions alone: the theorems are in `Demand3`. Assumes nothing.
-use Rattle.std.specs.Prelude.{ℕ, ◌+◌, ◌≤◌, ◌<◌, true, List, [], ◌∷◌, ◌++◌, ◌≡◌, length, get_or}
+use Rattle.std.specs.Prelude.{ℕ, ◌+◌, ◌≤◌, ◌<◌, true, List, [], ◌∷◌, ◌++◌, ◌≡◌, length, get_or, Ok}
 use Rattle.fragments.specs.Fragments.{fragment_at}
 use Rattle.fragments.specs.Shared.{holds}
 use Rattle.fragments.specs.declared.Fragment.{Fragment}
@@ -11,7 +11,6 @@ use Rattle.state.specs.Receiver.{fresh, header_of, held_fragments}
 use Rattle.wire.specs.Field.{Bytes}
 use Rattle.wire.specs.Reading.{reading, scan_in}
 use Rattle.wire.specs.declared.Packet.{Packet}
-use Rattle.wire.specs.declared.Reading.TheVariants as Answer
 use Rattle.demands.specs.History.{State, state, Accepted, Outcome, after}
 
 -- Place i lies in exactly one of these fragments.
@@ -25,7 +24,7 @@ pub record InExactlyOne (i : ℕ) (fs : List Fragment) : Type 0 where
 -- lies there.
 pub record Brings (source : ℕ) (packet : List ℕ) (i v : ℕ) : Type 0 where
   pub said : Packet
-  pub read : reading source packet ≡ Answer.Said said
+  pub read : reading source packet ≡ Ok said
   pub at : ℕ
   pub in_its_data : at < length (scan_in packet said)
   pub place : said.offset + at ≡ i
@@ -37,7 +36,7 @@ module _ (step : State → List ℕ → Outcome State) where
   pub record StartsPicture (x : State) (packet : List ℕ) : Type 0 where
     pub accepted : Accepted (step x packet).answer
     pub said : Packet
-    pub read : reading x.receiver.source packet ≡ Answer.Said said
+    pub read : reading x.receiver.source packet ≡ Ok said
     pub starts_one : starts x.receiver said ≡ true
 
   -- Packets come to x, one after the other, and none of them starts a picture.

@@ -1,11 +1,13 @@
 -- Demand 1: "A refusal has a number, hands back the receiver it was given, and changes no lent byte." Again, which is no refusal,
 -- hands both back too. Assumes nothing.
-use Rattle.std.specs.Prelude.{ℕ, Bool, true, List, [], ◌∷◌, ◌++◌, ◌≡◌, eqb}
+use Rattle.std.specs.Prelude.{ℕ, Bool, true, List, [], ◌∷◌, ◌++◌, ◌≡◌, eqb, Err}
 use Rattle.laws.specs.Any.{any}
 use Rattle.receiver.specs.Step.{held, Receives}
 use Rattle.receiver.specs.declared.Received.{Received}
 use Rattle.replies.specs.Reply
 use Rattle.replies.specs.declared.Written.{Written}
+use Rattle.replies.specs.declared.Refusal.{Refusal}
+use Rattle.replies.specs.Refusal.{number}
 use Rattle.state.specs.declared.Receiver.{Receiver}
 use Rattle.builder.specs.Building.{Builds}
 use Rattle.laws.specs.Each.{Each}
@@ -20,7 +22,6 @@ use Rattle.state.specs.declared.Answer.{Answer}
 use Rattle.state.specs.declared.Opened.{Opened}
 use Rattle.tables.specs.MakeTables.{MakesTables}
 use Rattle.wire.specs.Reading.{Reads}
-use Rattle.wire.specs.declared.Reading.TheVariants as Reading
 use Rattle.demands.specs.History.{State, Calls, NotAccepted, answer_in}
 
 -- The numbers of refusals in document 01's table of replies: of table making, the sender, the builder, the reader and the receiver.
@@ -75,9 +76,9 @@ BuilderRefuses = (r : Receiver) (area before : List ℕ) (w : Written) (after : 
 
 -- `wire::read`, which is lent nothing to write
 abbrev pub ReaderRefuses : Type 0
-ReaderRefuses = (source : ℕ) (packet : List ℕ) (n : ℕ) → Reads source packet (Reading.Refused n) → is_one_of of_reader n ≡ true
+ReaderRefuses = (source : ℕ) (packet : List ℕ) (r : Refusal) → Reads source packet (Err r) → is_one_of of_reader (number r) ≡ true
 
--- `state::open` and `ljosvark::lj_open`: 7, and the fresh receiver that document 01 asks for
+-- `state::open` and `ljosvark::lj_open`: 7, and a fresh receiver of room 0
 abbrev pub OpeningRefuses : Type 0
 OpeningRefuses = (source room : ℕ) (o : Opened) → Opens source room o → (o.answer.reply ≡ Reply.success → ⊥) → o ≡ record { answer = record { reply = 7; held = 0 }; receiver = fresh source 0 }
 

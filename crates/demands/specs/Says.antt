@@ -1,5 +1,5 @@
 -- What a receiver reads from packet k of a picture. Assumes nothing.
-use Rattle.std.specs.Prelude.{ℕ, ◌&&◌, List, ◌≡◌, eqb, true}
+use Rattle.std.specs.Prelude.{ℕ, ◌&&◌, List, ◌≡◌, eqb, true, Ok}
 use Rattle.fragments.specs.Fragments.{fragment_at, bytes_of}
 use Rattle.fragments.specs.declared.Fragment.{Fragment}
 use Rattle.receiver.specs.FirstPacket.{is_first, brings}
@@ -8,13 +8,12 @@ use Rattle.sender.specs.Picture.{Picture}
 use Rattle.sender.specs.declared.Stamp.{Stamp}
 use Rattle.wire.specs.Reading.{reading, scan_in, tables_in}
 use Rattle.wire.specs.declared.Packet.{Packet}
-use Rattle.wire.specs.declared.Reading.TheVariants as Answer
 use Rattle.demands.specs.Delivery.{brings_tables}
 
 -- Packet k of a picture says cut k, and brings the tables if it is the first.
 pub record Says (s : Stamp) (p : Picture) (cs : List Fragment) (k : ℕ) (bytes : List ℕ) : Type 0 where
   pub said : Packet
-  pub read : reading s.source bytes ≡ Answer.Said said
+  pub read : reading s.source bytes ≡ Ok said
   pub covers : fragment_of said ≡ fragment_at cs k
   pub time : said.time ≡ s.time
   pub header : said.header ≡ p.header

@@ -3,6 +3,7 @@ use Rattle.std.specs.Prelude.{ℕ, List, ◌≡◌}
 use Rattle.receiver.specs.Picture.{starts}
 use Rattle.replies.specs.Output.{fitted, answer_of, output_of}
 use Rattle.replies.specs.Reply
+use Rattle.replies.specs.declared.Refusal.TheVariants as Refusal
 use Rattle.sender.specs.Picture.{Picture}
 use Rattle.sender.specs.Sending.{sending}
 use Rattle.sender.specs.declared.Stamp.{Stamp}
@@ -48,4 +49,4 @@ abbrev pub StepsCountHeld : Type 0
 StepsCountHeld = (f : State → List ℕ → Outcome State) → MeetsContract f → CountsHeld f
 
 abbrev pub SenderCutsAsSaid : Type 0
-SenderCutsAsSaid = CutsAsSaid (λ p size s k before. let d = fitted Reply.packet_output before (sending p size s k) in record { answer = answer_of d; output = output_of before d })
+SenderCutsAsSaid = CutsAsSaid (λ p size s k before. let d = fitted Refusal.PacketOutput before (sending p size s k) in record { answer = answer_of d; output = output_of before d })

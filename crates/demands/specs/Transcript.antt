@@ -3,7 +3,7 @@ use Rattle.std.specs.Prelude.{ℕ, ◌+◌, List, [], ◌∷◌, ◌≡◌, leng
 use Rattle.builder.specs.Building.{checks, file_of}
 use Rattle.receiver.specs.Step.{held}
 use Rattle.replies.specs.Checks.{judged}
-use Rattle.replies.specs.declared.Judged.TheVariants.{Passed}
+use Rattle.replies.specs.Checks.{Passed}
 use Rattle.state.specs.Receiver.{fresh}
 use Rattle.state.specs.declared.Answer.{Answer}
 use Rattle.demands.specs.History.{State, state, step, after, answers}

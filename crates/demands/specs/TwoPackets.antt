@@ -1,17 +1,16 @@
 -- Pictures of two packets delivered backwards, with a repeat and with other packets between: what demand 3 asks of arrivals can be met,
 -- and what its last sentence says of them. Assumes nothing.
-use Rattle.std.specs.Prelude.{ℕ, List, [], ◌∷◌, map, ◌≡◌, length, get_or, take, replicate}
+use Rattle.std.specs.Prelude.{ℕ, List, [], ◌∷◌, map, ◌≡◌, length, get_or, take, replicate, Ok, Err}
 use Rattle.fragments.specs.Fragments.{fragment_at}
 use Rattle.fragments.specs.declared.Fragment.{Fragment}
+use Rattle.replies.specs.declared.Refusal.TheVariants as Refusal
 use Rattle.sender.specs.Cuts.{cuts}
 use Rattle.sender.specs.Packet as Sender
 use Rattle.sender.specs.Picture.{Picture, picture}
 use Rattle.sender.specs.declared.Stamp.{Stamp}
 use Rattle.state.specs.Receiver.{fresh}
 use Rattle.state.specs.declared.Answer.{Answer}
-use Rattle.wire.specs.Reading.{reading}
-use Rattle.wire.specs.declared.Reading.TheVariants.{Refused, Said}
-use Rattle.wire.specs.declared.Reading.{Reading}
+use Rattle.wire.specs.Reading.{Reading, reading}
 use Rattle.demands.specs.BothSides.{plain}
 use Rattle.demands.specs.Delivery.Arrival.{ours, other}
 use Rattle.demands.specs.Delivery.{Arrival, bytes_in, Delivered}
@@ -55,12 +54,12 @@ came = map (bytes_in in_transcript) arrivals
 
 -- The time stamp of a packet that is read, and 0 of one that is not.
 abbrev pub time_in : Reading → ℕ
-time_in (Refused n) = 0
-time_in (Said s) = s.time
+time_in (Err r) = 0
+time_in (Ok s) = s.time
 
 -- What the definitions come to here.
 pub record Computed : Type 0 where
-  pub foreign_read : reading 1 foreign ≡ Refused 14
+  pub foreign_read : reading 1 foreign ≡ Err Refusal.OtherSource
   pub older_read : time_in (reading 1 older) ≡ 999
   pub bears : before.receiver.source ≡ 1
   pub holds : before.receiver.time ≡ 999

@@ -1,6 +1,6 @@
 -- The useless builds that document 01 names, each as a step or as a sender, and what is asked of any. That none of them meets it is in
 -- `ShutOut`. Assumes nothing.
-use Rattle.std.specs.Prelude.{ℕ, Bool, false, cond, List, ◌≡◌}
+use Rattle.std.specs.Prelude.{ℕ, Bool, false, cond, List, ◌≡◌, Ok, Err}
 use Rattle.receiver.specs.FirstPacket.{is_first}
 use Rattle.receiver.specs.Step.{held}
 use Rattle.replies.specs.Reply
@@ -10,10 +10,8 @@ use Rattle.sender.specs.Sending.{Sends}
 use Rattle.sender.specs.declared.Stamp.{Stamp}
 use Rattle.state.specs.declared.Receiver.{Receiver}
 use Rattle.wire.specs.Field.{Bytes}
-use Rattle.wire.specs.Reading.{reading}
+use Rattle.wire.specs.Reading.{Reading, reading}
 use Rattle.wire.specs.declared.Packet.{Packet}
-use Rattle.wire.specs.declared.Reading.TheVariants as Answer
-use Rattle.wire.specs.declared.Reading.{Reading}
 use Rattle.demands.specs.History.{State, state, Outcome, step}
 
 -- ---- what is asked, besides demand 3 (`Delivers`, `WholeAsBrought`)
@@ -51,8 +49,8 @@ never_writing f x p = record { answer = (f x p).answer; left = state (f x p).lef
 -- "One that takes the first packet and only claims the others": these it answers and counts as held, and writes none of their bytes.
 -- The first is, as `takes` tells of what was read, the one that starts its picture or the one at offset 0.
 abbrev pub is_taken : (Receiver → Packet → Bool) → Receiver → Reading → Bool
-is_taken takes r (Answer.Refused n) = false
-is_taken takes r (Answer.Said s) = takes r s
+is_taken takes r (Err n) = false
+is_taken takes r (Ok s) = takes r s
 
 abbrev pub claiming : (Receiver → Packet → Bool) → State → List ℕ → Outcome State
 claiming takes x p = cond (is_taken takes x.receiver (reading x.receiver.source p)) (step x p) (never_writing step x p)

@@ -4,7 +4,7 @@
 ghost use Rattle.demands.specs.Begun.{BeginningsStart, StartsBegin, BegunWholeOrGivenUp, TallyOfAllBegun};
 ghost use Rattle.demands.specs.BothSides.{BothSides};
 ghost use Rattle.demands.specs.Demand3.{SentDelivery, CutDelivery, StepsDeliver, CutPackets, PacketsSent, HistoriesAsBrought, StepsAsBrought, ToldAsBrought, ShownAsBrought};
-ghost use Rattle.demands.specs.Determined.{RefusalIsDetermined, SuccessIsDetermined, MakeTablesIsDetermined, ReadIsDetermined, ScanIsDetermined, TablesIsDetermined, RestartsOfIsDetermined, TableSourceIsDetermined, IsLawfulIsDetermined, AreFullIsDetermined, PartIsDetermined, PutIsDetermined, AreSameIsDetermined, PacketIsDetermined, NoFragmentsIsDetermined, SurveyIsDetermined, PlaceIsDetermined, InsertIsDetermined, NoneIsDetermined, HasIsDetermined, FindIsDetermined, KeepIsDetermined, WellKeptIsDetermined, IsBlankIsDetermined, OpensIsDetermined, InspectIsDetermined, WholeFlagIsDetermined, ReceiveIsDetermined, ReceiveInPlaceIsDetermined, HeadLengthIsDetermined, PutHeadIsDetermined, BuildIsDetermined, RecordLengthIsDetermined, TakeRecordIsDetermined, NoCountsIsDetermined, AddCountIsDetermined, CloseCountsIsDetermined, AcceptedIsDetermined, NumberIsDetermined, FileNameIsDetermined};
+ghost use Rattle.demands.specs.Determined.{RefusalIsDetermined, SuccessIsDetermined, RefusalNumberIsDetermined, OutcomesAreTold, MakeTablesIsDetermined, ReadIsDetermined, ScanIsDetermined, TablesIsDetermined, RestartsOfIsDetermined, TableSourceIsDetermined, IsLawfulIsDetermined, AreFullIsDetermined, PartIsDetermined, PutIsDetermined, AreSameIsDetermined, PacketIsDetermined, NoFragmentsIsDetermined, SurveyIsDetermined, PlaceIsDetermined, InsertIsDetermined, NoneIsDetermined, HasIsDetermined, FindIsDetermined, KeepIsDetermined, WellKeptIsDetermined, IsBlankIsDetermined, OpensIsDetermined, InspectIsDetermined, WholeFlagIsDetermined, ReceiveIsDetermined, ReceiveInPlaceIsDetermined, HeadLengthIsDetermined, PutHeadIsDetermined, BuildIsDetermined, RecordLengthIsDetermined, TakeRecordIsDetermined, TakeNextIsDetermined, NoCountsIsDetermined, AddCountIsDetermined, CloseCountsIsDetermined, AcceptedIsDetermined, NumberIsDetermined, FileNameIsDetermined};
 ghost use Rattle.demands.specs.FileCases.{FileCases};
 ghost use Rattle.demands.specs.GivenUp.{GivenUpForAnother, AnotherGivesUp, RepliesHavePlaces};
 ghost use Rattle.demands.specs.History.{ThereAreHistories, CallsGoOn, RecordsAreCalls, RecordsAreOfBytes};
@@ -52,6 +52,8 @@ pub fn refuses()
 pub fn determines()
     ensures refusal { RefusalIsDetermined }
     ensures success { SuccessIsDetermined }
+    ensures refusal_number { RefusalNumberIsDetermined }
+    ensures outcomes { OutcomesAreTold }
     ensures make_tables { MakeTablesIsDetermined }
     ensures read { ReadIsDetermined }
     ensures scan { ScanIsDetermined }
@@ -84,6 +86,7 @@ pub fn determines()
     ensures build { BuildIsDetermined }
     ensures record_length { RecordLengthIsDetermined }
     ensures take_record { TakeRecordIsDetermined }
+    ensures take_next { TakeNextIsDetermined }
     ensures no_counts { NoCountsIsDetermined }
     ensures add_count { AddCountIsDetermined }
     ensures close_counts { CloseCountsIsDetermined }

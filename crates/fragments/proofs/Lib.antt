@@ -1,4 +1,4 @@
 mod Count
-mod Counted
-mod Moved
+mod Found
+pub mod Moved
 mod Unset

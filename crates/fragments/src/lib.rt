@@ -9,12 +9,12 @@ ghost use Rattle.std.specs.Int.Bits.{bit_or};
 ghost use Rattle.fragments.specs.Array.{Surveys, Places, PutsIn, HasNone};
 ghost use Rattle.fragments.specs.Fragments as Fragments;
 
-use pair::{alike, follows, share};
+use pair::{follows, share};
 
 // The part of a scan that a packet carries: `length` bytes from `offset` on; and the marker, 1 on the last of its picture and 0 on any
 // other.
 #[repr(C)]
-#[derive(Clone, Copy)]
+#[derive(Clone, Copy, PartialEq, Eq, Default, Debug)]
 pub struct Fragment {
     pub offset: u32,
     pub length: u32,
@@ -42,35 +42,29 @@ pub struct Placed {
     pub same: bool,
 }
 
-// What one pass over the array tells: a loop over the first `count`, and one over the places behind them. The first counts those that
-// do not follow the one before; the second joins the bits of all numbers, of which none may be set. Neither has an early way out, so
-// that the compiler can vectorise it. Both are here, and so is whether the first begins with byte 0: each function that is handed the
-// array, and each caller that reads `fragments[0]` itself, makes the compiler copy it once more. The second clause hands on what the
-// array's type says, which the prover does not know of a struct's field.
-pub fn survey(fragments: [Fragment; 64], count: u32) -> Surveyed
-    ensures surveys { Surveys fragments count result }
-    ensures fragments_len { length fragments ≡ 64 }
+// What one pass over the array tells: a loop over the first `count`, and one over the places behind them, which joins the bits of all
+// numbers, of which none may be set. Neither has an early way out, so that the compiler can take several at a time. The second clause
+// hands on what the array's type says, which the prover does not know of a struct's field.
+pub fn survey(fragments: &[Fragment; 64], count: u32) -> Surveyed
+    ensures surveys { Surveys fragments.now count result }
+    ensures fragments_len { length fragments.now ≡ 64 }
 {
-    let n = used(count);
-    let mut wrong: u32 = 0;
+    let n = (count as usize).min(64);
+    let mut ordered = true;
     let mut bytes: u64 = 0;
-    let mut last = nothing();
-    for i in 0..n {
-        let f = fragments[i];
-        if !follows(last, f) {
-            wrong += 1;
-        }
+    let mut last = Fragment::default();
+    for f in &fragments[..n] {
+        ordered &= follows(last, *f);
         bytes += f.length as u64;
-        last = f;
+        last = *f;
     }
     let mut set: u32 = 0;
-    for i in n..64 {
-        let f = fragments[i];
-        set = set | bits(f);
+    for f in &fragments[n..] {
+        set |= bits(*f);
     }
     Surveyed {
-        ordered: wrong == 0,
-        from_0: is_from_0(fragments[0], n),
+        ordered,
+        from_0: 0 < n && fragments[0].offset == 0,
         stop: stop(last),
         marker: last.marker,
         bytes,
@@ -79,45 +73,34 @@ pub fn survey(fragments: [Fragment; 64], count: u32) -> Surveyed
 }
 
 // Where a fragment goes among the first `count`: one pass in offset order, up to the first that begins where it ends or later.
-pub fn place(fragments: [Fragment; 64], count: u32, f: Fragment) -> Placed
-    ensures { Places fragments count f result }
+pub fn place(fragments: &[Fragment; 64], count: u32, f: Fragment) -> Placed
+    ensures { Places fragments.now count f result }
 {
-    let n = used(count);
+    let held = &fragments[..(count as usize).min(64)];
     let end = stop(f);
-    let mut at = 0;
-    let mut front = nothing();
-    while at < n {
-        let g = fragments[at];
-        if end <= g.offset as u64 {
-            break;
-        }
-        front = g;
-        at += 1;
-    }
+    let at = held
+        .iter()
+        .position(|g| end <= g.offset as u64)
+        .unwrap_or(held.len());
+    let front = held[..at].last().copied().unwrap_or_default();
     Placed {
         at,
         shares: share(f, front),
-        same: alike(f, front),
+        same: f == front,
     }
 }
 
-// The fragments with one more at a place of the first `count`: those from there on move up, the last first. As they were where there
-// is no such place, or all 64 are used. There is one way out, so that the array is copied once.
-pub fn insert(fragments: [Fragment; 64], count: u32, at: usize, f: Fragment) -> [Fragment; 64]
-    ensures { PutsIn fragments count at f result }
+// Puts one more at a place of the first `count`: those from there on move up. Nothing changes where there is no such place, or all 64
+// are used.
+#[tactic(auto, using(crate::proofs::Moved::moved_put))]
+pub fn insert(fragments: &mut [Fragment; 64], count: u32, at: usize, f: Fragment)
+    ensures { PutsIn fragments.old count at f fragments.new }
 {
-    let mut a = fragments;
-    let mut j = count as usize;
-    if count < 64 && at <= j {
-        while at < j {
-            let below = j - 1;
-            let g = a[below];
-            a[j] = g;
-            j = below;
-        }
-        a[at] = f;
+    let n = count as usize;
+    if count < 64 && at <= n {
+        fragments.copy_within(at..n, at + 1);
+        fragments[at] = f;
     }
-    a
 }
 
 // The array with all places unused.
@@ -125,18 +108,7 @@ pub fn insert(fragments: [Fragment; 64], count: u32, at: usize, f: Fragment) -> 
 pub fn none() -> [Fragment; 64]
     ensures { HasNone result }
 {
-    let unused = nothing();
-    [unused; 64]
-}
-
-pub(crate) fn nothing() -> Fragment
-    ensures { result ≡ Fragments.nothing }
-{
-    Fragment {
-        offset: 0,
-        length: 0,
-        marker: 0,
-    }
+    [Fragment::default(); 64]
 }
 
 pub(crate) fn stop(f: Fragment) -> u64
@@ -150,21 +122,4 @@ fn bits(f: Fragment) -> u32
     ensures { result ≡ bit_or (bit_or f.offset f.length) f.marker }
 {
     f.offset | f.length | f.marker
-}
-
-// Whether there is a first of n, and it begins with byte 0 of the scan.
-fn is_from_0(first: Fragment, n: usize) -> bool
-    ensures { result ≡ (ltb 0 n && eqb first.offset 0) }
-{
-    if n == 0 {
-        return false;
-    }
-    first.offset == 0
-}
-
-// How many of the 64 places a count takes.
-fn used(count: u32) -> usize
-    ensures { result ≡ min count 64 }
-{
-    if count < 64 { count as usize } else { 64 }
 }

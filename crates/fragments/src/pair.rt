@@ -10,13 +10,7 @@ use crate::{Fragment, stop};
 pub(crate) fn follows(g: Fragment, f: Fragment) -> bool
     ensures { result ≡ Order.follows g f }
 {
-    if (f.offset as u64) < stop(g) {
-        return false;
-    }
-    if f.length < 1 {
-        return false;
-    }
-    g.marker == 0
+    stop(g) <= f.offset as u64 && 1 <= f.length && g.marker == 0
 }
 
 // Whether they have a byte in common.
@@ -24,33 +18,7 @@ pub(crate) fn follows(g: Fragment, f: Fragment) -> bool
 pub(crate) fn share(f: Fragment, g: Fragment) -> bool
     ensures { result ≡ Shared.share f g }
 {
-    let from = larger(f.offset as u64, g.offset as u64);
-    let to = smaller(stop(f), stop(g));
-    from < to
-}
-
-fn larger(a: u64, b: u64) -> u64
-    ensures { result ≡ max a b }
-{
-    if a < b { b } else { a }
-}
-
-fn smaller(a: u64, b: u64) -> u64
-    ensures { result ≡ min a b }
-{
-    if a < b { a } else { b }
-}
-
-// Whether offset, length and marker are the same.
-#[tactic(auto, unfolding(crate::specs::Shared::alike))]
-pub(crate) fn alike(f: Fragment, g: Fragment) -> bool
-    ensures { result ≡ Shared.alike f g }
-{
-    if f.offset != g.offset {
-        return false;
-    }
-    if f.length != g.length {
-        return false;
-    }
-    f.marker == g.marker
+    let from = f.offset.max(g.offset);
+    let to = stop(f).min(stop(g));
+    (from as u64) < to
 }

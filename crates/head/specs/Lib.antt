@@ -1,3 +1,5 @@
 pub mod Segment
 pub mod Huffman
 pub mod Head
+pub mod Writer
+pub mod Markers

@@ -1,10 +1,9 @@
 // T.81 tables K.3 to K.6 as DHT has them: a line of counts, the codes of each length from 1 to 16 bits, and the symbols by rising code.
-ghost use Rattle.std.specs.Prelude.{◌+◌, ◌≤◌, ◌++◌, ◌≡◌, length};
-ghost use Rattle.laws.specs.Put.{PutsUpTo};
 ghost use Rattle.head.specs.Head.{huffman_tables};
-ghost use Rattle.head.specs.Huffman.{luma_dc, luma_ac, chroma_dc, chroma_ac};
+ghost use Rattle.head.specs.Writer.{HasRoom, Writes};
 
-use crate::segment::{DHT, put_table};
+use crate::segment::Marker;
+use crate::writer::Writer;
 
 const K3: [u8; 28] = *b"\
     \x00\x01\x05\x01\x01\x01\x01\x01\x01\x00\x00\x00\x00\x00\x00\x00\
@@ -42,41 +41,16 @@ const K6: [u8; 178] = *b"\
     \xe2\xe3\xe4\xe5\xe6\xe7\xe8\xe9\xea\xf2\xf3\xf4\xf5\xf6\xf7\xf8\
     \xf9\xfa";
 
-// Luma first; the upper four bits of a table's number are its class, 0 for DC and 1 for AC.
-pub(crate) fn put_huffman_tables(at: usize, out: &mut [u8]) -> usize
-    requires { at + 432 ≤ length out.old }
-    ensures { PutsUpTo out.old at huffman_tables out.new result }
-{
-    let dc = luma_dc();
-    let at = put_table(DHT, 0x00, &dc, at, out);
-    let ac = luma_ac();
-    let at = put_table(DHT, 0x10, &ac, at, out);
-    let dc = chroma_dc();
-    let at = put_table(DHT, 0x01, &dc, at, out);
-    let ac = chroma_ac();
-    put_table(DHT, 0x11, &ac, at, out)
-}
-
-fn luma_dc() -> [u8; 28]
-    ensures { result ≡ luma_dc.counts ++ luma_dc.symbols }
-{
-    K3
-}
-
-fn luma_ac() -> [u8; 178]
-    ensures { result ≡ luma_ac.counts ++ luma_ac.symbols }
-{
-    K5
-}
-
-fn chroma_dc() -> [u8; 28]
-    ensures { result ≡ chroma_dc.counts ++ chroma_dc.symbols }
-{
-    K4
-}
-
-fn chroma_ac() -> [u8; 178]
-    ensures { result ≡ chroma_ac.counts ++ chroma_ac.symbols }
-{
-    K6
+impl Writer<'_> {
+    // Luma first; the upper four bits of a table's number are its class, 0 for DC and 1 for AC.
+    #[tactic(auto, using(crate::specs::Segment::length_segment))]
+    pub(crate) fn put_huffman_tables(&mut self)
+        requires { HasRoom self.old 432 }
+        ensures { Writes self.old huffman_tables self.new }
+    {
+        self.put_segment(Marker::Dht, &[0x00], &K3);
+        self.put_segment(Marker::Dht, &[0x10], &K5);
+        self.put_segment(Marker::Dht, &[0x01], &K4);
+        self.put_segment(Marker::Dht, &[0x11], &K6);
+    }
 }

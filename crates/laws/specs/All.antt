@@ -1,13 +1,13 @@
 -- Whether each element of a list passes a test, and whether each two of them do. Assumes nothing.
 use Rattle.std.specs.Prelude.{ℕ, zero, suc, ◌+◌, ◌<◌, Bool, true, false, ◌&&◌, List, [], ◌∷◌, ◌≡◌, refl, length, get_or, take}
+use Rattle.std.specs.List.{list_all}
 use Rattle.std.proofs.Common.{◌∙◌, not-suc-le-zero, le_of_suc-le-suc, add-one}
 use Rattle.laws.specs.Each.{Each}
 use Rattle.laws.specs.Truth.{and_true, and_false, and_truth, and_assoc}
 
 module _ {A : Type 0} (test : A → Bool) where
   abbrev pub all : List A → Bool
-  all [] = true
-  all (x ∷ l) = test x && all l
+  all = list_all test
 
   -- as what has to hold of each
   pub all_each : (l : List A) → all l ≡ true → Each (λ (x : A). test x ≡ true) l

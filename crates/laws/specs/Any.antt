@@ -1,13 +1,13 @@
 -- Whether some element of a list passes a test. Assumes nothing.
 use Rattle.std.specs.Prelude.{ℕ, zero, suc, ◌+◌, ◌<◌, Bool, true, false, ◌||◌, List, [], ◌∷◌, ◌≡◌, refl, length, get_or, take}
+use Rattle.std.specs.List.{list_any}
 use Rattle.std.proofs.Common.{◌∙◌, not-suc-le-zero, le_of_suc-le-suc, add-one}
 use Rattle.laws.specs.Each.{Each}
 use Rattle.laws.specs.Truth.{or_none, or_true, or_false, or_assoc}
 
 module _ {A : Type 0} (test : A → Bool) where
   abbrev pub any : List A → Bool
-  any [] = false
-  any (x ∷ l) = test x || any l
+  any = list_any test
 
   -- no element passes: each fails
   pub any_none : (l : List A) → any l ≡ false → Each (λ (x : A). test x ≡ false) l

@@ -41,7 +41,7 @@ get_or_put l at bytes fits i = split (leb at i)
     front : length (take at l) ≡ at
     front = length-take-le at l (omega arith)
 
-put_front : (l bytes : List ℕ) → put l 0 bytes ≡ bytes ++ drop (length bytes) l
+pub put_front : (l bytes : List ℕ) → put l 0 bytes ≡ bytes ++ drop (length bytes) l
 put_front l bytes = rw (zero-add (length bytes))
 
 pub puts_front : {before bytes after : List ℕ} {n : ℕ} → Puts before 0 bytes after → length bytes ≡ n → after ≡ bytes ++ drop n before

@@ -8,8 +8,8 @@ ghost use Rattle.sender.specs.Sending.{Sends};
 ghost use Rattle.state.specs.Opening.{Opens};
 ghost use Rattle.tables.specs.MakeTables.{MakesTables};
 
-use replies::{AGAIN, Written};
-use sender::Stamp;
+use replies::{WHOLE, Written};
+use sender::{Picture, Stamp};
 use state::{Answer, Opened, Receiver};
 use wire::Header;
 
@@ -17,7 +17,7 @@ use wire::Header;
 pub extern "C" fn lj_make_tables(q: u32, out: &mut [u8]) -> Written
     ensures { MakesTables q out.old result out.new }
 {
-    tables::make_tables(q, out)
+    tables::make_tables(q, out).into()
 }
 
 #[unsafe(no_mangle)]
@@ -60,7 +60,12 @@ pub extern "C" fn lj_packet(
         time,
         source,
     };
-    sender::packet(header, tables, scan, size, stamp, k, out)
+    let picture = Picture {
+        header,
+        tables,
+        scan,
+    };
+    sender::packet(picture, size, stamp, k, out).into()
 }
 
 #[unsafe(no_mangle)]
@@ -81,7 +86,7 @@ pub extern "C" fn lj_receive(receiver: &mut Receiver, area: &mut [u8], packet: &
         area.new }
 {
     let done = receiver::receive(*receiver, area, packet);
-    if done.answer.reply < AGAIN {
+    if done.answer.reply <= WHOLE {
         *receiver = done.receiver;
     }
     done.answer
@@ -91,5 +96,5 @@ pub extern "C" fn lj_receive(receiver: &mut Receiver, area: &mut [u8], packet: &
 pub extern "C" fn lj_build(receiver: Receiver, area: &[u8], out: &mut [u8]) -> Written
     ensures { Builds receiver area.now out.old result out.new }
 {
-    builder::build(receiver, area, out)
+    builder::build(&receiver, area, out).into()
 }

@@ -1,6 +1,5 @@
 // The file of a whole picture.
 use crate::failure;
-use replies::SUCCESS;
 use state::Receiver;
 use std::fs::{File, OpenFile};
 use std::io::{ErrorKind, Write};
@@ -10,41 +9,45 @@ use std::{fs, io};
 // Linux's number for bytes that are no text.
 const NOT_TEXT: i32 = 84;
 
-// Writes the receiver's picture to the file of this number, or says why that cannot be done and answers false.
+// Writes the receiver's picture to the file of this number, or says why that cannot be done.
 pub(crate) fn save(
     files: &impl Files,
     errors: &impl Print,
-    receiver: Receiver,
+    receiver: &Receiver,
     area: &[u8],
     prefix: &[u8],
     number: u64,
-) -> bool {
-    let mut file = [0u8; 66149];
-    let built = builder::build(receiver, area, &mut file);
+) -> io::Result<()> {
     // The longest prefix, the most digits, and both endings.
     let mut name = [0u8; 4160];
-    let length = text::file_name(prefix, number, &mut name);
+    let Some(length) = text::file_name(prefix, number, &mut name) else {
+        return Err(io::Error::from(ErrorKind::InvalidInput));
+    };
     slices::put(b".part", length, &mut name);
     let part = slices::part(&name, 0, length + 5);
     let name = slices::part(&name, 0, length);
-    // Always so: the picture is whole, and there is room for the longest file.
-    let written = if built.reply == SUCCESS {
-        put_whole(
-            files,
-            name,
-            part,
-            slices::part(&file, 0, built.length as usize),
-        )
-    } else {
-        Err(io::Error::from(ErrorKind::InvalidData))
-    };
-    if let Err(error) = written {
+    let saved = build(files, receiver, area, name, part);
+    if let Err(error) = &saved {
         let _ = errors.write_all(b"not written: ");
         failure::say(errors, name, error);
         remove(files, part);
-        return false;
     }
-    true
+    saved
+}
+
+fn build(
+    files: &impl Files,
+    receiver: &Receiver,
+    area: &[u8],
+    name: &[u8],
+    part: &[u8],
+) -> io::Result<()> {
+    let mut file = [0u8; 66149];
+    // Never an error: the picture is whole, and there is room for the longest file.
+    let length = builder::build(receiver, area, &mut file).map_err(|_| io::Error::from(
+        ErrorKind::InvalidData,
+    ))?;
+    put_whole(files, name, part, slices::part(&file, 0, length as usize))
 }
 
 // A file has its name once all of it is there, so that no viewer shows a part of one.
@@ -69,8 +72,5 @@ fn remove(files: &impl Files, name: &[u8]) {
 
 // The standard library's paths are text in UTF-8, and a prefix may be any bytes.
 fn path(name: &[u8]) -> io::Result<&str> {
-    match str::from_utf8(name) {
-        Ok(text) => Ok(text),
-        Err(_) => Err(io::Error::from_raw_os_error(NOT_TEXT)),
-    }
+    str::from_utf8(name).map_err(|_| io::Error::from_raw_os_error(NOT_TEXT))
 }

@@ -1,5 +1,5 @@
 -- What holds of every step. Assumes nothing.
-use Rattle.std.specs.Prelude.{◌≡◌, ℕ, ◌^◌, ◌<◌, ◌≤◌, Bool, true, false, List, [], ◌∷◌, length, ◌==◌, ◌≢◌, nat_le}
+use Rattle.std.specs.Prelude.{◌≡◌, ℕ, ◌^◌, ◌<◌, ◌≤◌, Bool, true, false, List, [], ◌∷◌, length, ◌==◌, ◌≢◌, nat_le, Ok, Err}
 use Rattle.std.proofs.Math.Path.{refl, ap}
 use Rattle.std.proofs.Common.{sym, ◌∙◌, arith}
 use borrow.Author.Tests.{leb-true, eqb-true, eqb-false, eq-eqb, ne_eqb}
@@ -10,21 +10,19 @@ use Rattle.fragments.specs.Insertion.{insert, length_insert}
 use Rattle.laws.specs.Put.{put, length_put}
 use Rattle.laws.specs.Truth.{split, never_both, and_false, or_none}
 use Rattle.laws.specs.Within.{within, is_under}
-use Rattle.replies.specs.Checks.{judged, ◌when◌, neither, neither_9_nor_8, numbered, refused_by}
+use Rattle.replies.specs.Checks.{Judged, judged, ◌when◌, neither, neither_9_nor_8, numbered, refused_by}
+use Rattle.replies.specs.Refusal.{number}
 use Rattle.replies.specs.Reply
-use Rattle.replies.specs.declared.Judged.TheVariants.{Passed, Refused}
-use Rattle.replies.specs.declared.Judged.{Judged}
+use Rattle.replies.specs.declared.Refusal.{Refusal}
 use Rattle.state.specs.Receiver.{held_fragments, header_of}
 use Rattle.state.specs.WellFormed.{flag, well_formed, WellFormed, known_well_formed, is_well_formed, start_held, one_held}
 use Rattle.state.specs.declared.Receiver.{Receiver}
 use Rattle.wire.specs.Field.{Bytes}
 use Rattle.wire.specs.Lawful.{is_lawful, lawful_told}
 use Rattle.wire.specs.Readable.{Readable, read_packet, read_refused, scan_long}
-use Rattle.wire.specs.Reading.{reading, scan_in, checks as readChecks}
+use Rattle.wire.specs.Reading.{Reading, reading, scan_in, checks as readChecks}
 use Rattle.wire.specs.declared.Header.{Header}
 use Rattle.wire.specs.declared.Packet.{Packet}
-use Rattle.wire.specs.declared.Reading.TheVariants as Answer
-use Rattle.wire.specs.declared.Reading.{Reading}
 use Rattle.receiver.specs.FirstPacket.{is_bare, kept_after_well, tables_after_right}
 use Rattle.receiver.specs.Picture.{starts, picture_for, picture_begun, picture_held, picture_source, picture_room, picture_well_formed}
 use Rattle.receiver.specs.Step.Decision.{leave, accept}
@@ -37,15 +35,15 @@ use Rattle.receiver.specs.declared.Received.{Received}
 pub data Left (r : Receiver) (area p : List ℕ) (n : ℕ) : Type 0 where
   ill_formed : well_formed r ≡ false → n ≡ Reply.not_well_formed → Left r area p n
   other_area : (length area ≢ r.room) → n ≡ Reply.area_not_room → Left r area p n
-  unread : reading r.source p ≡ Answer.Refused n → Left r area p n
-  ruled_out : (s : Packet) → reading r.source p ≡ Answer.Said s → verdict r area p s ≡ Refused n → Left r area p n
+  unread : (why : Refusal) → reading r.source p ≡ Err why → n ≡ number why → Left r area p n
+  ruled_out : (s : Packet) (why : Refusal) → reading r.source p ≡ Ok s → verdict r area p s ≡ Err why → n ≡ number why → Left r area p n
 
 -- A packet that is taken, and what is known of it.
 pub record Taken (r : Receiver) (area p : List ℕ) : Type 0 where
   pub packet : Packet
   pub formed : well_formed r ≡ true
   pub lent : length area ≡ r.room
-  pub read : reading r.source p ≡ Answer.Said packet
+  pub read : reading r.source p ≡ Ok packet
   pub accepted : Accepted (picture_for r packet) packet
   pub decided : decision r area p ≡ accept packet
 
@@ -69,8 +67,8 @@ module _ (r : Receiver) (area p : List ℕ) where
       (λ l. leaves Reply.area_not_room (other_area (eqb-false (length area) r.room l) refl) (rw (w, l))))
       (λ w. leaves Reply.not_well_formed (ill_formed w refl) (rw w))
     where
-      by_verdict : well_formed r ≡ true → (length area == r.room) ≡ true → (s : Packet) → reading r.source p ≡ Answer.Said s → (j : Judged) → verdict r area p s ≡ j → P
-      by_verdict w l s e Passed v = takes (record {
+      by_verdict : well_formed r ≡ true → (length area == r.room) ≡ true → (s : Packet) → reading r.source p ≡ Ok s → (j : Judged) → verdict r area p s ≡ j → P
+      by_verdict w l s e (Ok passed) v = takes (record {
         packet = s;
         formed = w;
         lent = eqb-true (length area) r.room l;
@@ -78,18 +76,18 @@ module _ (r : Receiver) (area p : List ℕ) where
         accepted = accepted (picture_for r s) area p s v;
         decided = rw (w, l, e, v);
       })
-      by_verdict w l s e (Refused n) v = leaves n (ruled_out s e v) (rw (w, l, e, v))
+      by_verdict w l s e (Err why) v = leaves (number why) (ruled_out s why e v refl) (rw (w, l, e, v))
 
       by_reading : well_formed r ≡ true → (length area == r.room) ≡ true → (a : Reading) → reading r.source p ≡ a → P
-      by_reading w l (Answer.Refused n) e = leaves n (unread e) (rw (w, l, e))
-      by_reading w l (Answer.Said s) e = by_verdict w l s e (verdict r area p s) refl
+      by_reading w l (Err why) e = leaves (number why) (unread why e refl) (rw (w, l, e))
+      by_reading w l (Ok s) e = by_verdict w l s e (verdict r area p s) refl
 
   -- a test that 9 and 8 pass where they are given, and each number of the reader's and of the verdict's, is passed by the reply
   pub left_by : (test : ℕ → Bool) {n : ℕ} → (well_formed r ≡ false → test Reply.not_well_formed ≡ true) → ((length area ≢ r.room) → test Reply.area_not_room ≡ true) → numbered test (readChecks r.source p) ≡ true → ((s : Packet) → numbered test (checks (picture_for r s) area p s) ≡ true) → Left r area p n → test n ≡ true
   left_by test formed room read ruled (ill_formed w e) = rw e (formed w)
   left_by test formed room read ruled (other_area l e) = rw e (room l)
-  left_by test formed room read ruled (unread e) = read_refused r.source p test read e
-  left_by test formed room read ruled (ruled_out s e v) = refused_by test (checks (picture_for r s) area p s) (ruled s) v
+  left_by test formed room read ruled (unread why e n) = rw n (read_refused r.source p test read e)
+  left_by test formed room read ruled (ruled_out s why e v n) = rw n (refused_by test (checks (picture_for r s) area p s) (ruled s) v)
 
   left_number : {n : ℕ} → Left r area p n → 2 ≤ n
   left_number {n} l = leb-true 2 n (left_by (nat_le 2) (λ w. refl) (λ o. refl) refl (λ s. refl) l)
@@ -104,7 +102,7 @@ module _ (r : Receiver) (area p : List ℕ) where
   read_first w e = rw (w, eq-eqb (length area) r.room e)
 
   -- what was read is judged on the picture that it is for
-  pub judged_on : {s : Packet} {v : Receiver} → well_formed r ≡ true → length area ≡ r.room → reading r.source p ≡ Answer.Said s → picture_for r s ≡ v → decision r area p ≡ ruled (judged (checks v area p s)) s
+  pub judged_on : {s : Packet} {v : Receiver} → well_formed r ≡ true → length area ≡ r.room → reading r.source p ≡ Ok s → picture_for r s ≡ v → decision r area p ≡ ruled (judged (checks v area p s)) s
   judged_on {s} w l e same = read_first w l ∙ ap (judged_read r area p) e ∙ ap (λ (v : Receiver). ruled (judged (checks v area p s)) s) same
 
   pub when_left : {n : ℕ} → decision r area p ≡ leave n → (received r area p ≡ answering n (held r) r) × (area_after r area p ≡ area)
@@ -169,8 +167,8 @@ module _ (r : Receiver) (area p : List ℕ) where
   pub told_held : (received r area p).answer.reply ≡ Reply.held → Whole (held_fragments (received r area p).receiver) → ⊥
   told_held e w = omega (arith, whole_told (taken_when (omega arith)) w)
 
--- "For a packet that starts a picture, 23, 2, 25 and 26 cannot arise."
-pub starting : (r : Receiver) (area p : List ℕ) (s : Packet) → starts r s ≡ true → verdict r area p s ≡ judged (Reply.beyond when is_beyond r s ∷ Reply.bare when is_bare r.kept s ∷ [])
+-- Of a packet that starts a picture, 23, 2, 25 and 26 cannot arise.
+pub starting : (r : Receiver) (area p : List ℕ) (s : Packet) → starts r s ≡ true → verdict r area p s ≡ judged (Refusal.Beyond when is_beyond r s ∷ Refusal.Bare when is_bare r.kept s ∷ [])
 unfolding judged clashes
 starting r area p s e =
     rw (picture_begun r s e, not_behind s.time, like_itself s.header, and_false (is_marked (fragment_of s)))

@@ -12,6 +12,7 @@ use Rattle.state.specs.declared.Receiver.{Receiver}
 use Rattle.wire.specs.Readable.{scan_some}
 use Rattle.wire.specs.declared.Packet.{Packet}
 use Rattle.receiver.specs.Known.{Known}
+use Rattle.receiver.specs.declared.judge.Arrival.{Arrival}
 use Rattle.receiver.specs.Picture.{picture_for, by_picture, picture_count, picture_in_place, picture_end}
 use Rattle.receiver.specs.Verdict.{fragment_of, same_contents, is_again}
 
@@ -24,29 +25,29 @@ module _ (r : Receiver) (s : Packet) where
   pub again_by : (area p : List ℕ) → is_again (picture_for r s) area p s ≡ (any (alike (fragment_of s)) (held_fragments (picture_for r s)) && same_contents area p s r.tables)
   again_by area p = by_picture r s (λ (v : Receiver). is_again v area p s ≡ (any (alike (fragment_of s)) (held_fragments v) && same_contents area p s r.tables)) refl refl
 
-module _ {r : Receiver} {p : List ℕ} {s : Packet} (known : Known r p s) where
-  pub picture_length : length (held_fragments (picture_for r s)) ≡ (picture_for r s).fragment_count
+module _ {r : Receiver} {p : List ℕ} {a : Arrival} (known : Known r p a) where
+  pub picture_length : length (held_fragments (picture_for r a.said)) ≡ (picture_for r a.said).fragment_count
   picture_length =
-      ap length (sym (picture_fragments r s))
-      ∙ length-take-le (picture_for r s).fragment_count r.fragments (omega (arith, known.long, picture_count r s known.formed))
+      ap length (sym (picture_fragments r a.said))
+      ∙ length-take-le (picture_for r a.said).fragment_count r.fragments (omega (arith, known.long, picture_count r a.said known.formed))
 
-  module _ {q : Placed} (told : q ≡ placed (fragment_of s) (take (picture_for r s).fragment_count r.fragments)) where
-    placed_in : q ≡ placed (fragment_of s) (held_fragments (picture_for r s))
-    placed_in = rw (picture_fragments r s) at told
+  module _ {q : Placed} (told : q ≡ placed (fragment_of a.said) (take (picture_for r a.said).fragment_count r.fragments)) where
+    placed_in : q ≡ placed (fragment_of a.said) (held_fragments (picture_for r a.said))
+    placed_in = rw (picture_fragments r a.said) at told
 
-    pub at_place : q.at ≡ place (fragment_of s) (held_fragments (picture_for r s))
+    pub at_place : q.at ≡ place (fragment_of a.said) (held_fragments (picture_for r a.said))
     at_place = ap (λ (x : Placed). x.at) placed_in
 
-    pub same_held : q.same ≡ any (alike (fragment_of s)) (held_fragments (picture_for r s))
+    pub same_held : q.same ≡ any (alike (fragment_of a.said)) (held_fragments (picture_for r a.said))
     same_held =
         ap (λ (x : Placed). x.same) placed_in
-        ∙ sym (near_alike (fragment_of s) (scan_some r.source p s known.read) (held_fragments (picture_for r s)) (picture_in_place r s known.formed).order)
+        ∙ sym (near_alike (fragment_of a.said) (scan_some r.source p a.said known.read) (held_fragments (picture_for r a.said)) (picture_in_place r a.said known.formed).order)
 
-    pub clash_told : near_clashes (fragment_of s) q.shares (picture_for r s).end q.at (picture_for r s).fragment_count ≡ clashes (fragment_of s) (held_fragments (picture_for r s))
+    pub clash_told : near_clashes (fragment_of a.said) q.shares (picture_for r a.said).end q.at (picture_for r a.said).fragment_count ≡ clashes (fragment_of a.said) (held_fragments (picture_for r a.said))
     clash_told =
-        let f = fragment_of s in
-        let fs = held_fragments (picture_for r s) in
-        ap (near_clashes f q.shares (picture_for r s).end q.at) (sym picture_length)
-        ∙ ap (λ (e : ℕ). near_clashes f q.shares e q.at (length fs)) (picture_end r s known.formed)
+        let f = fragment_of a.said in
+        let fs = held_fragments (picture_for r a.said) in
+        ap (near_clashes f q.shares (picture_for r a.said).end q.at) (sym picture_length)
+        ∙ ap (λ (e : ℕ). near_clashes f q.shares e q.at (length fs)) (picture_end r a.said known.formed)
         ∙ ap (λ (x : Placed). near_clashes f x.shares (end_of fs) x.at (length fs)) placed_in
-        ∙ sym (clashes_are_near f fs (picture_in_place r s known.formed).order (scan_some r.source p s known.read))
+        ∙ sym (clashes_are_near f fs (picture_in_place r a.said known.formed).order (scan_some r.source p a.said known.read))

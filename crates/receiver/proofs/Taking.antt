@@ -1,6 +1,6 @@
 -- What an accepted packet makes of the picture that it is for, in the parts in which the code makes it. Assumes nothing.
 use Rattle.std.proofs.Common.{◌≡◌, ℕ, ◌+◌, ◌<◌, ◌≤◌, Bool, true, false, cond, not, ◌&&◌, eqb, List, [], ◌∷◌, length, get_or, take, drop, sym, refl, ap, ◌∙◌, arith, eq-eqb, ne_eqb, eqb-true}
-use borrow.Author.Tests.{not-true}
+use borrow.Author.Tests.{not-true, eqb-false}
 use Rattle.fragments.specs.Array.{is_nothing, no_fragments, padded, held_padded}
 use Rattle.fragments.specs.Clash.{is_marked, end_insert}
 use Rattle.fragments.specs.Fragments.{stop}
@@ -27,6 +27,7 @@ use Rattle.wire.specs.declared.Packet.{Packet}
 use Rattle.wire.specs.declared.TableSource.TheVariants.{Made}
 use Rattle.receiver.specs.FirstPacket.{brings, given, tables_after, kept_after}
 use Rattle.receiver.specs.Known.{Known, numbers}
+use Rattle.receiver.specs.declared.judge.Arrival.{Arrival}
 use Rattle.receiver.specs.Picture.{starts, picture_for, picture_source, picture_room, picture_array, picture_tables, picture_kept, picture_in_place, picture_end, picture_unused}
 use Rattle.receiver.specs.Step.{holding, taken, answering}
 use Rattle.receiver.specs.Verdict.{Accepted, fragment_of}
@@ -69,16 +70,28 @@ known_made q false [] source right known = absurd (never_both refl known)
 known_made q false (x ∷ l) source right known = absurd (never_both (and_true (is_zero x) (all is_zero l) right).0 known)
 
 -- the tables that a first packet would make are the receiver's, where it has those of the same Q
-pub tables_made : {r : Receiver} {p : List ℕ} {s : Packet} → Known r p s → s.offset ≡ 0 → (is_made (table_source s.header.q) && eqb r.q s.header.q && not (is_zero (get_or r.tables 0 0))) ≡ true → r.tables ≡ tables_after (picture_for r s).tables (picture_for r s).kept p s
+pub tables_made : {r : Receiver} {p : List ℕ} {a : Arrival} → Known r p a → a.said.offset ≡ 0 → (is_made (table_source a.said.header.q) && eqb r.q a.said.header.q && not (is_zero (get_or r.tables 0 0))) ≡ true → r.tables ≡ tables_after (picture_for r a.said).tables (picture_for r a.said).kept p a.said
 unfolding given
-tables_made {r} {p} {s} known first held =
-    let q = s.header.q in
+tables_made {r} {p} {a} known first held =
+    let q = a.said.header.q in
     let t = and_true (is_made (table_source q) && eqb r.q q) (not (is_zero (get_or r.tables 0 0))) held in
     let u = and_true (is_made (table_source q)) (eqb r.q q) t.0 in
     let between = made_between q u.0 in
     let source = made_to_99 q between.0 between.1 in
     let right = rw (eqb-true r.q q u.1) at (known_well_formed r known.formed).tables in
-    known_made q _ r.tables source right (not-true (is_zero (get_or r.tables 0 0)) t.1) ∙ rw source at (tables_first r p s first)
+    known_made q _ r.tables source right (not-true (is_zero (get_or r.tables 0 0)) t.1) ∙ rw source at (tables_first r p a.said first)
+
+-- the tables as they are set, by all of these cases
+pub tables_set : {r : Receiver} {p : List ℕ} {a : Arrival} {begun : Bool} → Known r p a → begun ≡ starts r a.said →
+    cond (eqb a.said.offset 0) (cond (is_made (table_source a.said.header.q) && eqb r.q a.said.header.q && not (eqb (get_or r.tables 0 0) 0)) r.tables (given r.kept p a.said)) (cond begun blank r.tables) ≡ tables_after (picture_for r a.said).tables (picture_for r a.said).kept p a.said
+tables_set {r} {p} {a} known b =
+    split (eqb a.said.offset 0)
+    (λ e. split (is_made (table_source a.said.header.q) && eqb r.q a.said.header.q && not (eqb (get_or r.tables 0 0) 0))
+    (λ m. rw (e, m) (tables_made known (eqb-true a.said.offset 0 e) m))
+    (λ m. rw (e, m) (tables_first r p a.said (eqb-true a.said.offset 0 e))))
+    (λ e. split (starts r a.said)
+    (λ n. rw (e, b, n) (tables_begun r p a.said (eqb-false a.said.offset 0 e) n))
+    (λ n. rw (e, b, n) (tables_stay r p a.said (eqb-false a.said.offset 0 e) n)))
 
 -- the next receiver but for the store, put together of the picture's numbers and of its new parts
 pub put_together : (r : Receiver) (p : List ℕ) (s : Packet) {x : Numbers} {end told count : ℕ} {fragments : List Fragment}
@@ -103,42 +116,42 @@ pub put_together : (r : Receiver) (p : List ℕ) (s : Packet) {x : Numbers} {end
     } ≡ holding v fs after r.kept
 put_together r p s same e w n f tables t = rw same (cc (picture_source r s, picture_room r s))
 
-module _ {r : Receiver} {p : List ℕ} {s : Packet} (known : Known r p s) (accepted : Accepted (picture_for r s) s) where
-  pub ends_inside : stop (fragment_of s) ≤ 65536
-  ends_inside = omega (arith, accepted.fits, picture_room r s, (known_well_formed r known.formed).room)
+module _ {r : Receiver} {p : List ℕ} {a : Arrival} (known : Known r p a) (accepted : Accepted (picture_for r a.said) a.said) where
+  pub ends_inside : stop (fragment_of a.said) ≤ 65536
+  ends_inside = omega (arith, accepted.fits, picture_room r a.said, (known_well_formed r known.formed).room)
 
-  pub few_held : (picture_for r s).fragment_count < 64
+  pub few_held : (picture_for r a.said).fragment_count < 64
   few_held = omega (arith, accepted.few, picture_length known)
 
-  pub one_more : (picture_for r s).fragment_count + 1 ≡ length (insert (fragment_of s) (held_fragments (picture_for r s)))
-  one_more = omega (arith, picture_length known, length_insert (fragment_of s) (held_fragments (picture_for r s)))
+  pub one_more : (picture_for r a.said).fragment_count + 1 ≡ length (insert (fragment_of a.said) (held_fragments (picture_for r a.said)))
+  one_more = omega (arith, picture_length known, length_insert (fragment_of a.said) (held_fragments (picture_for r a.said)))
 
-  pub place_among : place (fragment_of s) (held_fragments (picture_for r s)) ≤ (picture_for r s).fragment_count
-  place_among = omega (arith, picture_length known, place_within (fragment_of s) (held_fragments (picture_for r s)))
+  pub place_among : place (fragment_of a.said) (held_fragments (picture_for r a.said)) ≤ (picture_for r a.said).fragment_count
+  place_among = omega (arith, picture_length known, place_within (fragment_of a.said) (held_fragments (picture_for r a.said)))
 
-  pub clear_behind : all is_nothing (drop (picture_for r s).fragment_count (cond (starts r s) no_fragments r.fragments)) ≡ true
-  clear_behind = rw (← picture_array r s) (picture_unused r s known.formed)
+  pub clear_behind : all is_nothing (drop (picture_for r a.said).fragment_count (cond (starts r a.said) no_fragments r.fragments)) ≡ true
+  clear_behind = rw (← picture_array r a.said) (picture_unused r a.said known.formed)
 
-  pub put_among : padded (insert_at (place (fragment_of s) (held_fragments (picture_for r s))) (fragment_of s) (take (picture_for r s).fragment_count (cond (starts r s) no_fragments r.fragments))) ≡ padded (insert (fragment_of s) (held_fragments (picture_for r s)))
-  put_among = rw (← picture_array r s)
+  pub put_among : padded (insert_at (place (fragment_of a.said) (held_fragments (picture_for r a.said))) (fragment_of a.said) (take (picture_for r a.said).fragment_count (cond (starts r a.said) no_fragments r.fragments))) ≡ padded (insert (fragment_of a.said) (held_fragments (picture_for r a.said)))
+  put_among = rw (← picture_array r a.said)
 
-  pub end_after : cond (is_marked (fragment_of s)) (stop (fragment_of s)) (picture_for r s).end ≡ end_of (insert (fragment_of s) (held_fragments (picture_for r s)))
+  pub end_after : cond (is_marked (fragment_of a.said)) (stop (fragment_of a.said)) (picture_for r a.said).end ≡ end_of (insert (fragment_of a.said) (held_fragments (picture_for r a.said)))
   end_after =
-      ap (cond (is_marked (fragment_of s)) (stop (fragment_of s))) (picture_end r s known.formed)
-      ∙ sym (end_insert (fragment_of s) (held_fragments (picture_for r s)) (picture_in_place r s known.formed).order accepted.clear)
+      ap (cond (is_marked (fragment_of a.said)) (stop (fragment_of a.said))) (picture_end r a.said known.formed)
+      ∙ sym (end_insert (fragment_of a.said) (held_fragments (picture_for r a.said)) (picture_in_place r a.said known.formed).order accepted.clear)
 
-  pub total_after : total (held_fragments (picture_for r s)) + s.scan.length ≡ total (insert (fragment_of s) (held_fragments (picture_for r s)))
-  total_after = omega (arith, total_insert (fragment_of s) (held_fragments (picture_for r s)))
+  pub total_after : total (held_fragments (picture_for r a.said)) + a.said.scan.length ≡ total (insert (fragment_of a.said) (held_fragments (picture_for r a.said)))
+  total_after = omega (arith, total_insert (fragment_of a.said) (held_fragments (picture_for r a.said)))
 
   -- what is held and comes fits into 32 bits
-  pub held_small : total (held_fragments (picture_for r s)) ≤ 65536
+  pub held_small : total (held_fragments (picture_for r a.said)) ≤ 65536
   held_small =
-      let placed = picture_in_place r s known.formed in
-      omega (arith, (known_well_formed r known.formed).room, total_within 0 r.room (held_fragments (picture_for r s)) placed.order placed.inside (omega arith))
+      let placed = picture_in_place r a.said known.formed in
+      omega (arith, (known_well_formed r known.formed).room, total_within 0 r.room (held_fragments (picture_for r a.said)) placed.order placed.inside (omega arith))
 
   -- the scan data fits where it goes
-  pub written : (area : List ℕ) {after bytes : List ℕ} → length area ≡ r.room → bytes ≡ scan_in p s → after ≡ put_at area s.offset bytes → after ≡ put area s.offset (scan_in p s)
-  written area lent e w = w ∙ rw e (put_fits area s.offset (scan_in p s) (omega (arith, scan_long r.source p s known.read, accepted.fits, picture_room r s)))
+  pub written : (area : List ℕ) {after bytes : List ℕ} → length area ≡ r.room → bytes ≡ scan_in p a.said → after ≡ put_at area a.said.offset bytes → after ≡ put area a.said.offset (scan_in p a.said)
+  written area lent e w = w ∙ rw e (put_fits area a.said.offset (scan_in p a.said) (omega (arith, scan_long r.source p a.said known.read, accepted.fits, picture_room r a.said)))
 
 -- a reply, a count and a receiver that are the same
 pub same_answer : {reply reply' n n' : ℕ} {r r' : Receiver} → reply ≡ reply' → n ≡ n' → r ≡ r' → answering reply n r ≡ answering reply' n' r'

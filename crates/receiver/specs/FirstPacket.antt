@@ -38,7 +38,7 @@ given_from Reserved k p s = tables_in p s
 unfoldable pub given : Kept → List ℕ → Packet → List ℕ
 given k p s = given_from (table_source s.header.q) k p s
 
--- "length 0 and no tables kept for this Q"
+-- it is a first packet of a Q whose tables are kept, but brings none, and none are kept for this Q
 unfoldable pub is_bare : Kept → Packet → Bool
 is_bare k s = is_first s && is_keepable s.header.q && not (brings s) && not (has k s.header.q)
 

@@ -1,33 +1,22 @@
--- What is known when a packet has been read and is judged. Assumes nothing.
-use Rattle.std.specs.Prelude.{◌≡◌, ℕ, Bool, true, List, length}
+-- What is known when a packet has been read and is judged, and when it is accepted. Assumes nothing.
+use Rattle.std.specs.Prelude.{◌≡◌, ℕ, Bool, true, List, length, ◌==◌, Result, Ok, Err}
 use Rattle.fragments.specs.Held.{total}
 use Rattle.fragments.specs.Insertion.{place}
 use Rattle.fragments.specs.Order.{reach}
-use Rattle.replies.specs.declared.Judged.TheVariants.{Passed, Refused}
-use Rattle.replies.specs.declared.Judged.{Judged}
+use Rattle.replies.specs.Checks.{Judged}
+use Rattle.replies.specs.Refusal.{number}
+use Rattle.replies.specs.declared.Refusal.{Refusal}
 use Rattle.state.specs.Receiver.{held_fragments, header_of}
 use Rattle.state.specs.WellFormed.{well_formed}
 use Rattle.state.specs.declared.Receiver.{Receiver}
 use Rattle.wire.specs.Reading.{reading}
 use Rattle.wire.specs.declared.Packet.{Packet}
-use Rattle.wire.specs.declared.Reading.{Reading}
-use Rattle.wire.specs.declared.Reading.TheVariants as Answer
-use Rattle.receiver.specs.Picture.{picture_for}
-use Rattle.receiver.specs.Verdict.{fragment_of}
-use Rattle.receiver.specs.declared.judge.Verdict.TheVariants as Ruling
-use Rattle.receiver.specs.declared.judge.Verdict.{Verdict}
+use Rattle.receiver.specs.Picture.{starts, picture_for}
+use Rattle.receiver.specs.Step.Decision.{leave, accept}
+use Rattle.receiver.specs.Step.{decision}
+use Rattle.receiver.specs.Verdict.{fragment_of, Accepted}
+use Rattle.receiver.specs.declared.judge.Arrival.{Arrival}
 use Rattle.receiver.specs.declared.picture.Numbers.{Numbers}
-
--- The receiver is well formed, its array has 64 places, and the packet p says s.
-pub record Known (r : Receiver) (p : List ℕ) (s : Packet) : Type 0 where
-  pub formed : well_formed r ≡ true
-  pub long : length r.fragments ≡ 64
-  pub read : reading r.source p ≡ Answer.Said s
-
--- The number of the reader's refusal, and 0 where it refuses nothing.
-abbrev pub refusal_of : Reading → ℕ
-refusal_of (Answer.Refused n) = n
-refusal_of (Answer.Said s) = 0
 
 -- The numbers of a picture.
 abbrev pub numbers : Bool → Receiver → Numbers
@@ -36,16 +25,39 @@ numbers begun r = record {
   time = r.time;
   header = header_of r;
   end = r.end;
-  whole = r.whole;
+  whole = r.whole == 1;
   count = r.fragment_count;
   held = total (held_fragments r);
   reach = reach (held_fragments r);
 }
 
--- A verdict with the place at which an accepted packet's fragment goes.
-abbrev pub ruled_at : Judged → ℕ → Verdict
-ruled_at Passed at = Ruling.Accepted at
-ruled_at (Refused n) at = Ruling.Left n
+-- The receiver is well formed, its array has 64 places, the packet p says what arrives, and the numbers are those of the picture that it
+-- is for.
+pub record Known (r : Receiver) (p : List ℕ) (a : Arrival) : Type 0 where
+  pub formed : well_formed r ≡ true
+  pub long : length r.fragments ≡ 64
+  pub read : reading r.source p ≡ Ok a.said
+  pub picture : a.picture ≡ numbers (starts r a.said) (picture_for r a.said)
 
-abbrev pub placed_by : Receiver → Packet → Judged → Verdict
-placed_by r s j = ruled_at j (place (fragment_of s) (held_fragments (picture_for r s)))
+-- The place at which a packet's fragment goes among those of its picture.
+abbrev pub its_place : Receiver → Packet → ℕ
+its_place r s = place (fragment_of s) (held_fragments (picture_for r s))
+
+-- What arrives is accepted, too, and its fragment goes to place `at`.
+pub record Admitted (r : Receiver) (p : List ℕ) (a : Arrival) (at : ℕ) : Type 0 where
+  pub known : Known r p a
+  pub accepted : Accepted (picture_for r a.said) a.said
+  pub place : at ≡ its_place r a.said
+
+-- A verdict with the place at which an accepted packet's fragment goes.
+abbrev pub ruled_at : Judged → ℕ → Result ℕ Refusal
+ruled_at (Ok passed) at = Ok at
+ruled_at (Err why) at = Err why
+
+abbrev pub placed_by : Receiver → Packet → Judged → Result ℕ Refusal
+placed_by r s j = ruled_at j (its_place r s)
+
+-- The outcome of `decide`: the refusal that the call answers, or what it accepts, with the area as long as the room.
+abbrev pub Decides : Receiver → List ℕ → List ℕ → Result (Arrival × ℕ) Refusal → Type 0
+Decides r area p (Err why) = decision r area p ≡ leave (number why)
+Decides r area p (Ok a) = (decision r area p ≡ accept a.0.said) × (length area ≡ r.room) × Admitted r p a.0 a.1

@@ -2,5 +2,5 @@ pub mod Time
 pub mod Picture
 pub mod FirstPacket
 pub mod Verdict
-pub mod Known
 pub mod Step
+pub mod Known

@@ -1,5 +1,5 @@
 -- The receiver's step: what a packet makes of a receiver and of the area that is lent with it. Assumes nothing.
-use Rattle.std.specs.Prelude.{◌≡◌, ℕ, cond, not, List, length, ◌==◌}
+use Rattle.std.specs.Prelude.{◌≡◌, ℕ, cond, not, List, length, ◌==◌, Ok, Err}
 use Rattle.fragments.specs.Array.{padded}
 use Rattle.fragments.specs.Held.{total, end_of, whole}
 use Rattle.fragments.specs.Insertion.{insert}
@@ -7,15 +7,13 @@ use Rattle.fragments.specs.declared.Fragment.{Fragment}
 use Rattle.kept.specs.declared.Kept.{Kept}
 use Rattle.laws.specs.Put.{put}
 use Rattle.replies.specs.Reply
-use Rattle.replies.specs.declared.Judged.{Judged}
-use Rattle.replies.specs.declared.Judged.TheVariants.{Passed, Refused}
+use Rattle.replies.specs.Checks.{Judged}
+use Rattle.replies.specs.Refusal.{number}
 use Rattle.state.specs.Receiver.{held_fragments}
 use Rattle.state.specs.WellFormed.{flag, well_formed}
 use Rattle.state.specs.declared.Receiver.{Receiver}
-use Rattle.wire.specs.Reading.{reading, scan_in}
+use Rattle.wire.specs.Reading.{Reading, reading, scan_in}
 use Rattle.wire.specs.declared.Packet.{Packet}
-use Rattle.wire.specs.declared.Reading.{Reading}
-use Rattle.wire.specs.declared.Reading.TheVariants as Answer
 use Rattle.receiver.specs.FirstPacket.{tables_after, kept_after}
 use Rattle.receiver.specs.Picture.{picture_for}
 use Rattle.receiver.specs.Verdict.{fragment_of, verdict}
@@ -28,13 +26,13 @@ pub data Decision : Type 0 where
 
 -- What the checks came to.
 abbrev pub ruled : Judged → Packet → Decision
-ruled Passed s = accept s
-ruled (Refused n) s = leave n
+ruled (Ok passed) s = accept s
+ruled (Err why) s = leave (number why)
 
 -- The reader's refusal, or the verdict on what was read.
 abbrev pub judged_read : Receiver → List ℕ → List ℕ → Reading → Decision
-judged_read r area p (Answer.Refused n) = leave n
-judged_read r area p (Answer.Said s) = ruled (verdict r area p s) s
+judged_read r area p (Err why) = leave (number why)
+judged_read r area p (Ok s) = ruled (verdict r area p s) s
 
 -- 9, 8, the reader's, and then the verdict on what was read.
 unfoldable pub decision : Receiver → List ℕ → List ℕ → Decision
@@ -84,7 +82,7 @@ abbrev pub received_by : Decision → Receiver → List ℕ → Received
 received_by (leave n) r p = answering n (held r) r
 received_by (accept s) r p = took_in (taken (picture_for r s) p s)
 
--- "An accepted packet writes its data at its offset and nothing elsewhere in the area."
+-- An accepted packet writes its data at its offset, and nothing elsewhere in the area.
 abbrev pub area_by : Decision → List ℕ → List ℕ → List ℕ
 area_by (leave n) area p = area
 area_by (accept s) area p = put area s.offset (scan_in p s)

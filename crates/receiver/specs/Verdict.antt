@@ -1,4 +1,4 @@
--- The verdict on a packet that has been read: document 01's checks from 22 on. Assumes nothing.
+-- The verdict on a packet that has been read: the checks from 22 on. Assumes nothing.
 use Rattle.std.specs.Prelude.{◌≡◌, ℕ, ◌<◌, ◌≤◌, Bool, false, not, ◌&&◌, ◌||◌, List, [], ◌∷◌, ◌++◌, length, ◌==◌, nat_eq, nat_le, nat_lt, refl}
 use Rattle.std.proofs.Common.{ltb-false, leb-false, eqb-true, eq-eqb}
 use Rattle.std.proofs.lemmas.Bool.{not-false}
@@ -9,10 +9,8 @@ use Rattle.fragments.specs.declared.Fragment.{Fragment}
 use Rattle.laws.specs.Any.{any}
 use Rattle.laws.specs.Same.{same}
 use Rattle.laws.specs.Truth.{and_true, or_none}
-use Rattle.replies.specs.Checks.{Check, judged, ◌when◌, all_hold}
-use Rattle.replies.specs.Reply
-use Rattle.replies.specs.declared.Judged.{Judged}
-use Rattle.replies.specs.declared.Judged.TheVariants.{Passed}
+use Rattle.replies.specs.Checks.{Check, Judged, Passed, judged, ◌when◌, all_hold}
+use Rattle.replies.specs.declared.Refusal.TheVariants as Refusal
 use Rattle.state.specs.Receiver.{held_fragments, header_of}
 use Rattle.state.specs.declared.Receiver.{Receiver}
 use Rattle.wire.specs.Reading.{scan_in, tables_in}
@@ -26,15 +24,15 @@ use Rattle.receiver.specs.Time.{is_behind}
 abbrev pub fragment_of : Packet → Fragment
 fragment_of s = record { offset = s.offset; length = s.scan.length; marker = s.marker }
 
--- "past: older, exactly 2^31 away, or that picture is whole"
+-- it is past: older than the picture, exactly 2^31 away from it, or the picture is whole
 abbrev pub is_past : Receiver → Packet → Bool
 is_past r s = is_behind s.time r.time || r.whole == 1
 
--- "type, Q, width, height or interval unlike the picture's"
+-- its type, Q, width, height or interval is not the picture's
 unfoldable pub is_unlike : Header → Header → Bool
 is_unlike h g = not (h.kind == g.kind && h.q == g.q && h.width == g.width && h.height == g.height && h.interval == g.interval)
 
--- "offset plus length beyond the room"
+-- its data would end beyond the room
 abbrev pub is_beyond : Receiver → Packet → Bool
 is_beyond r s = nat_lt r.room (stop (fragment_of s))
 
@@ -46,29 +44,29 @@ agrees p s tables = not (brings s) || same (tables_in p s) tables
 abbrev pub same_contents : List ℕ → List ℕ → Packet → List ℕ → Bool
 same_contents area p s tables = same (bytes_of area (fragment_of s)) (scan_in p s) && agrees p s tables
 
--- "Again means same offset, length, marker and bytes, and any tables it brings equal the picture's."
+-- it is held already: with this offset, length, marker and bytes, and any tables that it brings are the picture's
 abbrev pub is_again : Receiver → List ℕ → List ℕ → Packet → Bool
 is_again r area p s = any (alike (fragment_of s)) (held_fragments r) && same_contents area p s r.tables
 
--- "64 fragments held"
+-- 64 fragments are held
 abbrev pub is_full : Receiver → Bool
 is_full r = nat_le 64 (length (held_fragments r))
 
 -- The checks of a packet p that says s, against a picture and the area: 22, 23, 24,
 abbrev pub picture_checks : Receiver → Packet → List Check
 picture_checks r s =
-    Reply.past when is_past r s
-    ∷ Reply.unlike when is_unlike (header_of r) s.header
-    ∷ Reply.beyond when is_beyond r s
+    Refusal.Past when is_past r s
+    ∷ Refusal.Unlike when is_unlike (header_of r) s.header
+    ∷ Refusal.Beyond when is_beyond r s
     ∷ []
 
 -- 2 or 25, 26, 27
 abbrev pub place_checks : Receiver → List ℕ → List ℕ → Packet → List Check
 place_checks r area p s =
-    Reply.again when is_again r area p s
-    ∷ Reply.clash when clashes (fragment_of s) (held_fragments r)
-    ∷ Reply.full when is_full r
-    ∷ Reply.bare when is_bare r.kept s
+    Refusal.Again when is_again r area p s
+    ∷ Refusal.Clash when clashes (fragment_of s) (held_fragments r)
+    ∷ Refusal.Full when is_full r
+    ∷ Refusal.Bare when is_bare r.kept s
     ∷ []
 
 abbrev pub checks : Receiver → List ℕ → List ℕ → Packet → List Check

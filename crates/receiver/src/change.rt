@@ -1,77 +1,82 @@
 // The receiver as an accepted packet leaves it.
-ghost use Rattle.std.specs.Prelude.{◌≡◌, ◌+◌, ◌^◌, ◌<◌, ◌≤◌, true, take, drop, if◌then◌else◌};
+ghost use Rattle.std.specs.Prelude.{◌≡◌, ◌+◌, ◌^◌, ◌<◌, ◌≤◌, true, take, drop, if◌then◌else◌, nat_eq, not, ◌&&◌, ◌==◌, slice_index};
 ghost use Rattle.fragments.specs.Array.{is_nothing, no_fragments, padded};
 ghost use Rattle.fragments.specs.Clash.{is_marked};
 ghost use Rattle.fragments.specs.Fragments.{stop};
 ghost use Rattle.fragments.specs.Held.{total};
-ghost use Rattle.fragments.specs.Insertion.{place};
+ghost use Rattle.kept.specs.Kept.{blank};
 ghost use Rattle.laws.specs.All.{all};
 ghost use Rattle.laws.specs.Insert.{insert_at};
 ghost use Rattle.state.specs.Receiver.{held_fragments};
-ghost use Rattle.receiver.specs.Known.{Known, numbers};
-ghost use Rattle.receiver.specs.Picture.{starts, picture_for};
+ghost use Rattle.wire.specs.TableSource.{is_made, table_source};
+ghost use Rattle.receiver.specs.FirstPacket as First;
+ghost use Rattle.receiver.specs.Known.{Admitted};
+ghost use Rattle.receiver.specs.Picture.{picture_for};
 ghost use Rattle.receiver.specs.Step as Step;
-ghost use Rattle.receiver.specs.Verdict.{Accepted, fragment_of};
 
 use crate::first_packet::{are_made, given, keeps};
-use crate::judge::fragment_of;
-use crate::picture::Numbers;
+use crate::judge::{Arrival, fragment_of};
 use fragments::Fragment;
+use kept::Kept;
 use state::Receiver;
 use wire::Packet;
 
-// The receiver with the packet's fragment at its place in the picture, which then has `held` scan bytes, and with the tables that the
-// packet gives it.
-pub(crate) fn taken(
-    receiver: Receiver,
-    picture: Numbers,
-    packet: &[u8],
-    said: Packet,
-    at: usize,
-    held: u32,
-) -> Receiver
-    requires known { Known receiver packet.now said × Accepted (picture_for receiver said) said }
-    requires picture_value { picture ≡ numbers (starts receiver said) (picture_for receiver said) }
-    requires at_value { at ≡ place (fragment_of said) (held_fragments (picture_for receiver said)) }
-    requires held_value { held ≡ total (held_fragments (picture_for receiver said)) + said.scan.length }
-    ensures { result ≡ Step.taken (picture_for receiver said) packet.now said }
+// Puts the packet's fragment at its place in the picture, which then has `held` scan bytes, and sets the tables that the packet gives it.
+pub(crate) fn take(receiver: &mut Receiver, arrival: Arrival, packet: &[u8], at: usize, held: u32)
+    requires admitted { Admitted receiver.old packet.now arrival at }
+    requires held_with_it { held ≡ total (held_fragments (picture_for receiver.old arrival.said)) + arrival.said.scan.length }
+    ensures { receiver.new ≡ Step.taken (picture_for receiver.old arrival.said) packet.now arrival.said }
 {
+    let Arrival { said, picture } = arrival;
     let f = fragment_of(said);
     let count = picture.count + 1;
     let end = end_with(picture.end, f);
-    let fragments = receiver.fragments;
-    let tables = receiver.tables;
-    let kept = receiver.kept;
-    let mut next = Receiver {
-        source: receiver.source,
-        room: receiver.room,
-        picture: 1,
-        time: picture.time,
-        kind: picture.header.kind,
-        q: picture.header.q,
-        width: picture.header.width,
-        height: picture.header.height,
-        interval: picture.header.interval,
-        end,
-        whole: state::whole_flag(end, held as u64),
-        fragment_count: count,
-        fragments: fragments_with(fragments, picture.begun, picture.count, at, f),
-        tables,
-        kept,
-    };
-    // Tables and store are set only where they change: either is 128 bytes or more to copy, and tables take longer to make.
+    set_fragments(&mut receiver.fragments, picture.begun, picture.count, at, f);
+    set_tables(
+        &mut receiver.tables,
+        &receiver.kept,
+        receiver.q,
+        picture.begun,
+        packet,
+        said,
+    );
+    set_kept(&mut receiver.kept, packet, said);
+    receiver.picture = 1;
+    receiver.time = picture.time;
+    receiver.kind = picture.header.kind;
+    receiver.q = picture.header.q;
+    receiver.width = picture.header.width;
+    receiver.height = picture.header.height;
+    receiver.interval = picture.header.interval;
+    receiver.end = end;
+    receiver.whole = state::whole_flag(end, held as u64);
+    receiver.fragment_count = count;
+}
+
+// The picture's tables: those that a first packet gives, where they are not there already; none where it begins; else as they were.
+#[tactic(auto, unfolding(kept::specs::Kept::blank))]
+fn set_tables(tables: &mut [u8; 128], kept: &Kept, q: u32, begun: bool, packet: &[u8], said: Packet)
+    ensures { tables.new ≡ (if nat_eq said.offset 0
+        then (if is_made (table_source said.header.q) && q == said.header.q && not (slice_index tables.old 0 == 0) then tables.old else First.given kept.now packet.now said)
+        else (if begun then blank else tables.old)) }
+{
     if said.offset == 0 {
-        if !are_made(receiver.q, tables, said.header.q) {
-            let given_tables = given(kept, packet, said);
-            next.tables = given_tables;
+        if !are_made(q, tables, said.header.q) {
+            *tables = given(kept, packet, said);
         }
-    } else if picture.begun {
-        next.tables = [0; 128];
+    } else if begun {
+        *tables = [0; 128];
     }
+}
+
+// The store: tables that come and are kept, and else as it was.
+#[tactic(auto, using(crate::proofs::Taking::store_kept, crate::proofs::Taking::store_stays))]
+fn set_kept(kept: &mut Kept, packet: &[u8], said: Packet)
+    ensures { kept.new ≡ First.kept_after kept.old packet.now said }
+{
     if keeps(said) {
-        next.kept = kept::keep(kept, said.header.q, wire::tables(packet, said));
+        *kept = kept::keep(kept, said.header.q, wire::tables(packet, said));
     }
-    next
 }
 
 // The end with one more fragment: its own, if it has the marker, and else what it was.
@@ -87,17 +92,13 @@ fn end_with(end: u32, f: Fragment) -> u32
 }
 
 // The fragments with one more; a picture that the packet begins had none.
-fn fragments_with(
-    fragments: [Fragment; 64],
-    begun: bool,
-    count: u32,
-    at: usize,
-    f: Fragment,
-) -> [Fragment; 64]
-    requires count_bound { (count < 64) × (at ≤ count) }
-    requires fragments_value { all is_nothing (drop count (if begun then no_fragments else fragments)) ≡ true }
-    ensures { result ≡ padded (insert_at at f (take count (if begun then no_fragments else fragments))) }
+fn set_fragments(fragments: &mut [Fragment; 64], begun: bool, count: u32, at: usize, f: Fragment)
+    requires room_for_one { (count < 64) × (at ≤ count) }
+    requires unused_behind { all is_nothing (drop count (if begun then no_fragments else fragments.old)) ≡ true }
+    ensures { fragments.new ≡ padded (insert_at at f (take count (if begun then no_fragments else fragments.old))) }
 {
-    let held = if begun { fragments::none() } else { fragments };
-    fragments::insert(held, count, at, f)
+    if begun {
+        *fragments = fragments::none();
+    }
+    fragments::insert(fragments, count, at, f);
 }

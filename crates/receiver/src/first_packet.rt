@@ -12,44 +12,40 @@ use wire::{Packet, TableSource};
 
 // Whether it brings no tables, and none are kept for its Q.
 #[tactic(auto, unfolding(crate::specs::FirstPacket::is_bare))]
-pub(crate) fn is_bare(kept: Kept, said: Packet) -> bool
-    ensures { result ≡ First.is_bare kept said }
+pub(crate) fn is_bare(kept: &Kept, said: Packet) -> bool
+    ensures { result ≡ First.is_bare kept.now said }
 {
-    if said.offset != 0 {
-        return false;
-    }
-    match wire::table_source(said.header.q) {
-        TableSource::Made => false,
-        TableSource::KeptOrBrought => said.tables.length == 0 && !kept::has(kept, said.header.q),
-        TableSource::AlwaysBrought => false,
-        TableSource::Reserved => false,
-    }
+    said.offset == 0
+        && wire::table_source(said.header.q) == TableSource::KeptOrBrought
+        && said.tables.length == 0
+        && !kept::has(kept, said.header.q)
 }
 
 // The tables that a first packet gives its picture.
 #[tactic(auto, unfolding(crate::specs::FirstPacket::given))]
-pub(crate) fn given(kept: Kept, packet: &[u8], said: Packet) -> [u8; 128]
-    ensures { result ≡ First.given kept packet.now said }
+pub(crate) fn given(kept: &Kept, packet: &[u8], said: Packet) -> [u8; 128]
+    ensures { result ≡ First.given kept.now packet.now said }
 {
     match wire::table_source(said.header.q) {
         TableSource::Made => made(said.header.q),
         TableSource::KeptOrBrought => brought_or_kept(kept, packet, said),
-        TableSource::AlwaysBrought => wire::tables(packet, said),
-        TableSource::Reserved => wire::tables(packet, said),
+        TableSource::AlwaysBrought | TableSource::Reserved => wire::tables(packet, said),
     }
 }
 
+// By itself here and in `state::check::are_made`: one for both would be another public function.
 fn made(q: u32) -> [u8; 128]
     requires { Between 1 99 q }
     ensures { result ≡ tables_of q }
 {
     let mut tables = [0u8; 128];
-    tables::make_tables(q, &mut tables);
+    // not refused: this Q makes tables, and they fit
+    let _ = tables::make_tables(q, &mut tables);
     tables
 }
 
-fn brought_or_kept(kept: Kept, packet: &[u8], said: Packet) -> [u8; 128]
-    ensures { result ≡ (if First.brings said then tables_in packet.now said else find kept said.header.q) }
+fn brought_or_kept(kept: &Kept, packet: &[u8], said: Packet) -> [u8; 128]
+    ensures { result ≡ (if First.brings said then tables_in packet.now said else find kept.now said.header.q) }
 {
     if said.tables.length == 0 {
         kept::find(kept, said.header.q)
@@ -59,15 +55,10 @@ fn brought_or_kept(kept: Kept, packet: &[u8], said: Packet) -> [u8; 128]
 }
 
 // Whether the tables held for a Q are those that a Q makes: it is the same Q, and they are known, so that none of them is 0.
-pub(crate) fn are_made(held: u32, tables: [u8; 128], q: u32) -> bool
-    ensures { result ≡ (is_made (table_source q) && held == q && not (slice_index tables 0 == 0)) }
+pub(crate) fn are_made(held: u32, tables: &[u8; 128], q: u32) -> bool
+    ensures { result ≡ (is_made (table_source q) && held == q && not (slice_index tables.now 0 == 0)) }
 {
-    match wire::table_source(q) {
-        TableSource::Made => held == q && tables[0] != 0,
-        TableSource::KeptOrBrought => false,
-        TableSource::AlwaysBrought => false,
-        TableSource::Reserved => false,
-    }
+    wire::table_source(q) == TableSource::Made && held == q && tables[0] != 0
 }
 
 // Whether a packet brings tables that are kept.
@@ -75,10 +66,5 @@ pub(crate) fn keeps(said: Packet) -> bool
     ensures { result ≡ (is_keepable said.header.q && First.brings said) }
 {
     let q = said.header.q;
-    match wire::table_source(q) {
-        TableSource::Made => false,
-        TableSource::KeptOrBrought => said.tables.length != 0,
-        TableSource::AlwaysBrought => false,
-        TableSource::Reserved => false,
-    }
+    wire::table_source(q) == TableSource::KeptOrBrought && said.tables.length != 0
 }

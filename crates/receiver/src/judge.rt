@@ -1,12 +1,15 @@
 // The verdict on a packet that has been read, from its time stamp to its tables. It decides everything: nothing is changed before it.
-ghost use Rattle.std.specs.Prelude.{◌≡◌, ◌^◌, ◌<◌, ◌≤◌, ◌&&◌, ◌||◌, length, take, ◌==◌, nat_lt};
+ghost use Rattle.std.specs.Prelude.{◌≡◌, ◌^◌, ◌<◌, ◌≤◌, ◌&&◌, ◌||◌, length, take, nat_lt};
 ghost use Rattle.fragments.specs.Array.{Places};
 ghost use Rattle.fragments.specs.Clash.{near_clashes};
+ghost use Rattle.fragments.specs.Fragments.{bytes_of};
 ghost use Rattle.fragments.specs.Order as Order;
 ghost use Rattle.fragments.specs.Order.{InOrder};
+ghost use Rattle.laws.specs.Same.{same};
 ghost use Rattle.replies.specs.Checks.{judged};
-ghost use Rattle.receiver.specs.Known.{Known, numbers, placed_by};
-ghost use Rattle.receiver.specs.Picture.{starts, picture_for};
+ghost use Rattle.wire.specs.Reading.{scan_in};
+ghost use Rattle.receiver.specs.Known.{Known, placed_by};
+ghost use Rattle.receiver.specs.Picture.{picture_for};
 ghost use Rattle.receiver.specs.Time.{is_behind};
 ghost use Rattle.receiver.specs.Verdict as Spec;
 
@@ -14,106 +17,81 @@ use crate::first_packet::is_bare;
 use crate::picture::Numbers;
 use crate::time::is_behind;
 use fragments::{Fragment, Placed};
-use replies::{AGAIN, BARE, BEYOND, CLASH, FULL, PAST, UNLIKE};
+use replies::Refusal;
 use state::Receiver;
-use wire::{Header, Packet};
+use wire::Packet;
 
-// A reply that leaves all as it is, or the place at which the fragment goes.
+// A packet that has been read, and the picture that it is for.
 #[derive(Clone, Copy)]
-pub(crate) enum Verdict {
-    Left(u32),
-    Accepted(usize),
+pub(crate) struct Arrival {
+    pub(crate) said: Packet,
+    pub(crate) picture: Numbers,
 }
 
-pub(crate) fn judge(
-    receiver: Receiver,
-    picture: Numbers,
-    area: &[u8],
-    packet: &[u8],
-    said: Packet,
-) -> Verdict
-    requires known { Known receiver packet.now said }
-    requires picture_value { picture ≡ numbers (starts receiver said) (picture_for receiver said) }
-    ensures { result ≡ placed_by receiver said (Spec.verdict receiver area.now packet.now said) }
-{
-    if is_past(said.time, picture.time, picture.whole) {
-        return Verdict::Left(PAST);
+impl Arrival {
+    // Why the packet changes nothing, or the place at which its fragment goes.
+    pub(crate) fn judge(
+        self,
+        receiver: &Receiver,
+        area: &[u8],
+        packet: &[u8],
+    ) -> Result<usize, Refusal>
+        requires { Known receiver.now packet.now self }
+        ensures { result ≡ placed_by receiver.now self.said (Spec.verdict receiver.now area.now packet.now self.said) }
+    {
+        if self.is_past() {
+            return Err(Refusal::Past);
+        }
+        if self.picture.header != self.said.header {
+            return Err(Refusal::Unlike);
+        }
+        if (receiver.room as u64) < self.said.offset as u64 + self.said.scan.length as u64 {
+            return Err(Refusal::Beyond);
+        }
+        self.judge_place(receiver, area, packet)
     }
-    if is_unlike(picture.header, said.header) {
-        return Verdict::Left(UNLIKE);
-    }
-    if (receiver.room as u64) < said.offset as u64 + said.scan.length as u64 {
-        return Verdict::Left(BEYOND);
-    }
-    judge_place(receiver, picture, area, packet, said)
-}
 
-fn is_past(time: u32, held: u32, whole: u32) -> bool
-    ensures { result ≡ (is_behind time held || whole == 1) }
-{
-    if is_behind(time, held) {
-        return true;
+    fn is_past(self) -> bool
+        ensures { result ≡ (is_behind self.said.time self.picture.time || self.picture.whole) }
+    {
+        is_behind(self.said.time, self.picture.time) || self.picture.whole
     }
-    whole == 1
-}
 
-#[tactic(auto, unfolding(crate::specs::Verdict::is_unlike))]
-fn is_unlike(held: Header, header: Header) -> bool
-    ensures { result ≡ Spec.is_unlike held header }
-{
-    if held.kind != header.kind {
-        return true;
+    // The checks against the fragments held, by where the packet's goes and what stands in front of it.
+    fn judge_place(self, receiver: &Receiver, area: &[u8], packet: &[u8]) -> Result<usize, Refusal>
+        requires { Known receiver.now packet.now self }
+        ensures { result ≡ placed_by receiver.now self.said (judged (Spec.place_checks (picture_for receiver.now self.said) area.now packet.now self.said)) }
+    {
+        let f = fragment_of(self.said);
+        let placed = place_of(
+            &receiver.fragments,
+            self.picture.count,
+            self.picture.reach,
+            f,
+        );
+        if is_again(placed.same, &receiver.tables, area, packet, self.said) {
+            return Err(Refusal::Again);
+        }
+        if clashes(f, placed, self.picture.end, self.picture.count) {
+            return Err(Refusal::Clash);
+        }
+        if 64 <= self.picture.count {
+            return Err(Refusal::Full);
+        }
+        if is_bare(&receiver.kept, self.said) {
+            return Err(Refusal::Bare);
+        }
+        Ok(placed.at)
     }
-    if held.q != header.q {
-        return true;
-    }
-    if held.width != header.width {
-        return true;
-    }
-    if held.height != header.height {
-        return true;
-    }
-    held.interval != header.interval
-}
-
-// The checks against the fragments held, by where the packet's goes and what stands in front of it.
-fn judge_place(
-    receiver: Receiver,
-    picture: Numbers,
-    area: &[u8],
-    packet: &[u8],
-    said: Packet,
-) -> Verdict
-    requires known { Known receiver packet.now said }
-    requires picture_value { picture ≡ numbers (starts receiver said) (picture_for receiver said) }
-    ensures { result ≡ placed_by receiver said (judged (Spec.place_checks (picture_for receiver said) area.now packet.now said)) }
-{
-    let f = fragment_of(said);
-    let fragments = receiver.fragments;
-    let placed = place_of(fragments, picture.count, picture.reach, f);
-    let tables = receiver.tables;
-    if is_again(placed.same, tables, area, packet, said) {
-        return Verdict::Left(AGAIN);
-    }
-    if clashes(f, placed, picture.end, picture.count) {
-        return Verdict::Left(CLASH);
-    }
-    if 64 <= picture.count {
-        return Verdict::Left(FULL);
-    }
-    let kept = receiver.kept;
-    if is_bare(kept, said) {
-        return Verdict::Left(BARE);
-    }
-    Verdict::Accepted(placed.at)
 }
 
 // Where a fragment goes among the first `count`. One that begins where the last of them ends, or later, goes behind them: then the array
 // is neither looked at nor copied, and so it is with packets that come in order.
-fn place_of(fragments: [Fragment; 64], count: u32, reach: u32, f: Fragment) -> Placed
-    requires in_order { InOrder 0 (take count fragments) × (length (take count fragments) ≡ count) }
-    requires reach_value { (reach ≡ Order.reach (take count fragments)) × (1 ≤ f.length) }
-    ensures { Places fragments count f result }
+#[tactic(auto, using(fragments::specs::Array::placed_behind))]
+fn place_of(fragments: &[Fragment; 64], count: u32, reach: u32, f: Fragment) -> Placed
+    requires in_order { InOrder 0 (take count fragments.now) × (length (take count fragments.now) ≡ count) }
+    requires reach_of_these { (reach ≡ Order.reach (take count fragments.now)) × (1 ≤ f.length) }
+    ensures { Places fragments.now count f result }
 {
     if reach <= f.offset {
         return Placed {
@@ -138,28 +116,25 @@ pub(crate) fn fragment_of(said: Packet) -> Fragment
 }
 
 // Whether a packet is an exact repeat: `alike` tells that its offset, length and marker are those of one held.
-fn is_again(alike: bool, tables: [u8; 128], area: &[u8], packet: &[u8], said: Packet) -> bool
-    ensures { result ≡ (alike && Spec.same_contents area.now packet.now said tables) }
+fn is_again(alike: bool, tables: &[u8; 128], area: &[u8], packet: &[u8], said: Packet) -> bool
+    ensures { result ≡ (alike && Spec.same_contents area.now packet.now said tables.now) }
 {
-    if !alike {
-        return false;
-    }
+    alike && has_bytes(area, packet, said) && agrees(tables, packet, said)
+}
+
+// Whether the bytes that a packet carries are those that the area has there.
+fn has_bytes(area: &[u8], packet: &[u8], said: Packet) -> bool
+    ensures { result ≡ same (bytes_of area.now (Spec.fragment_of said)) (scan_in packet.now said) }
+{
     let held = slices::part(area, said.offset as usize, said.scan.length);
-    let same = slices::are_same(held, wire::scan(packet, said));
-    if !same {
-        return false;
-    }
-    agrees(tables, packet, said)
+    slices::are_same(held, wire::scan(packet, said))
 }
 
 // Whether any tables that a packet brings are those of the picture.
-fn agrees(tables: [u8; 128], packet: &[u8], said: Packet) -> bool
-    ensures { result ≡ Spec.agrees packet.now said tables }
+fn agrees(tables: &[u8; 128], packet: &[u8], said: Packet) -> bool
+    ensures { result ≡ Spec.agrees packet.now said tables.now }
 {
-    if said.tables.length == 0 {
-        return true;
-    }
-    slices::are_same(&wire::tables(packet, said), &tables)
+    said.tables.length == 0 || slices::are_same(&wire::tables(packet, said), tables)
 }
 
 // Whether a fragment contradicts those held, by what the one in front of its place, the end and the place tell. Where no byte is
@@ -168,24 +143,15 @@ fn agrees(tables: [u8; 128], packet: &[u8], said: Packet) -> bool
 fn clashes(f: Fragment, placed: Placed, end: u32, count: u32) -> bool
     ensures { result ≡ near_clashes f placed.shares end placed.at count }
 {
-    if placed.shares {
-        return true;
-    }
-    if f.marker == 1 {
-        return rules_out_marker(placed.at, end, count);
-    }
-    if end == 0 {
-        return false;
-    }
-    (end as u64) < f.offset as u64 + f.length as u64
+    let stop = u64::from(f.offset) + u64::from(f.length);
+    placed.shares
+        || (end != 0 && u64::from(end) < stop)
+        || (f.marker == 1 && rules_out_marker(placed.at, end, count))
 }
 
 // Whether the end is known, or a fragment stands behind a place.
 fn rules_out_marker(at: usize, end: u32, count: u32) -> bool
     ensures { result ≡ (nat_lt 0 end || nat_lt at count) }
 {
-    if end != 0 {
-        return true;
-    }
-    at < count as usize
+    end != 0 || at < count as usize
 }

@@ -7,23 +7,20 @@ mod judge;
 mod picture;
 mod time;
 
-ghost use Rattle.std.specs.Prelude.{◌≡◌, length, if◌then◌else◌, nat_eq};
-ghost use Rattle.fragments.specs.Insertion.{place};
+ghost use Rattle.std.specs.Prelude.{◌≡◌, length, if◌then◌else◌, nat_eq, Ok};
 ghost use Rattle.laws.specs.Put.{put};
 ghost use Rattle.replies.specs.Reply as Reply;
-ghost use Rattle.state.specs.Receiver.{held_fragments};
+ghost use Rattle.state.specs.WellFormed.{Inspects};
 ghost use Rattle.wire.specs.Reading.{scan_in};
-ghost use Rattle.receiver.specs.Known.{Known, numbers, refusal_of};
-ghost use Rattle.receiver.specs.Picture.{starts, picture_for};
+ghost use Rattle.receiver.specs.Known.{Admitted, Decides};
+ghost use Rattle.receiver.specs.Picture.{picture_for};
 ghost use Rattle.receiver.specs.Step as Step;
-ghost use Rattle.receiver.specs.Verdict.{Accepted, fragment_of};
 
-use crate::change::taken;
-use crate::judge::{Verdict, judge};
-use crate::picture::{Numbers, picture_for};
-use replies::{AREA_NOT_ROOM, HELD, NOT_WELL_FORMED, WHOLE};
-use state::{Answer, Inspected, Receiver};
-use wire::{Packet, Reading};
+use crate::change::take;
+use crate::judge::Arrival;
+use crate::picture::picture_for;
+use replies::{HELD, Refusal, WHOLE};
+use state::{Answer, Holding, Receiver};
 
 // What the step answers, and the next receiver.
 #[derive(Clone, Copy)]
@@ -32,71 +29,83 @@ pub struct Received {
     pub receiver: Receiver,
 }
 
-// Takes a packet into the picture that it is for. All is decided first; then the area is written at most once, and the receiver
-// given back is the next one, or the one that came.
+// Takes a packet into the picture that it is for. All is decided first; then the area and the receiver are written, or neither is.
+fn step(receiver: &mut Receiver, area: &mut [u8], packet: &[u8]) -> Answer
+    ensures { Step.Receives receiver.old area.old packet.now (record { answer = result; receiver = receiver.new }) area.new }
+{
+    let Ok(holding) = state::inspect(receiver) else {
+        return Answer {
+            reply: Refusal::NotWellFormed.number(),
+            held: 0,
+        };
+    };
+    match decide(receiver, holding, area, packet) {
+        Ok((arrival, at)) => accept(receiver, arrival, at, area, packet),
+        Err(refusal) => Answer {
+            reply: refusal.number(),
+            held: holding.held,
+        },
+    }
+}
+
+// The step on a copy.
 pub fn receive(receiver: Receiver, area: &mut [u8], packet: &[u8]) -> Received
     ensures { Step.Receives receiver area.old packet.now result area.new }
 {
-    let Inspected::Holds(held, reach) = state::inspect(receiver) else {
-        return unchanged(NOT_WELL_FORMED, 0, receiver);
-    };
-    if area.len() != receiver.room as usize {
-        return unchanged(AREA_NOT_ROOM, held, receiver);
-    }
-    let reading = wire::read(receiver.source, packet);
-    let Reading::Said(said) = reading else {
-        return unchanged(refusal(reading), held, receiver);
-    };
-    let picture = picture_for(receiver, held, reach, said);
-    match judge(receiver, picture, area, packet, said) {
-        Verdict::Left(number) => unchanged(number, held, receiver),
-        Verdict::Accepted(at) => accept(receiver, picture, area, packet, said, at),
-    }
-}
-
-fn unchanged(reply: u32, held: u32, receiver: Receiver) -> Received
-    ensures { result ≡ Step.answering reply held receiver }
-{
+    let mut next = receiver;
+    let answer = step(&mut next, area, packet);
     Received {
-        answer: Answer { reply, held },
-        receiver,
-    }
-}
-
-// The number of the reader's refusal, and 0 where there is none.
-fn refusal(reading: Reading) -> u32
-    ensures { result ≡ refusal_of reading }
-{
-    match reading {
-        Reading::Refused(number) => number,
-        Reading::Said(_) => 0,
-    }
-}
-
-// The step with an accepted packet, whose fragment goes to a place of its picture. The area is written last: the compiler cannot know
-// that it is not the receiver's own memory, and would copy the fragments first.
-fn accept(
-    receiver: Receiver,
-    picture: Numbers,
-    area: &mut [u8],
-    packet: &[u8],
-    said: Packet,
-    at: usize,
-) -> Received
-    requires known { Known receiver packet.now said × (length area.old ≡ receiver.room) }
-    requires picture_value { picture ≡ numbers (starts receiver said) (picture_for receiver said) }
-    requires accepted { Accepted (picture_for receiver said) said × (at ≡ place (fragment_of said) (held_fragments (picture_for receiver said))) }
-    ensures value { result ≡ Step.took_in (Step.taken (picture_for receiver said) packet.now said) }
-    ensures area_after { area.new ≡ put area.old said.offset (scan_in packet.now said) }
-{
-    let sum = picture.held + said.scan.length as u32;
-    let next = taken(receiver, picture, packet, said, at, sum);
-    let reply = reply_with(next.whole);
-    slices::put(wire::scan(packet, said), said.offset as usize, area);
-    Received {
-        answer: Answer { reply, held: sum },
+        answer,
         receiver: next,
     }
+}
+
+// What a well-formed receiver that holds this decides of a packet: why nothing changes, or what has arrived, and where its fragment goes.
+fn decide(
+    receiver: &Receiver,
+    holding: Holding,
+    area: &[u8],
+    packet: &[u8],
+) -> Result<(Arrival, usize), Refusal>
+    requires inspected { Inspects receiver.now (Ok holding) }
+    requires fragments_len { length receiver.now.fragments ≡ 64 }
+    ensures { Decides receiver.now area.now packet.now result }
+{
+    if area.len() != receiver.room as usize {
+        return Err(Refusal::AreaNotRoom);
+    }
+    let reading = wire::read(receiver.source, packet);
+    // the other branch has no name for the refusal
+    let Ok(said) = reading else {
+        return Err(reading.unwrap_err());
+    };
+    let arrival = Arrival {
+        said,
+        picture: picture_for(receiver, holding, said),
+    };
+    let at = arrival.judge(receiver, area, packet)?;
+    Ok((arrival, at))
+}
+
+// The step with an accepted packet, whose fragment goes to a place of its picture.
+fn accept(
+    receiver: &mut Receiver,
+    arrival: Arrival,
+    at: usize,
+    area: &mut [u8],
+    packet: &[u8],
+) -> Answer
+    requires admitted { Admitted receiver.old packet.now arrival at }
+    requires lent { length area.old ≡ receiver.old.room }
+    ensures value { record { answer = result; receiver = receiver.new } ≡ Step.took_in (Step.taken (picture_for receiver.old arrival.said) packet.now arrival.said) }
+    ensures area_after { area.new ≡ put area.old arrival.said.offset (scan_in packet.now arrival.said) }
+{
+    let said = arrival.said;
+    let held = arrival.picture.held + said.scan.length as u32;
+    take(receiver, arrival, packet, at, held);
+    let reply = reply_with(receiver.whole);
+    slices::put(wire::scan(packet, said), said.offset as usize, area);
+    Answer { reply, held }
 }
 
 // The reply to an accepted packet, by the flag of its picture.

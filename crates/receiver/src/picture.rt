@@ -1,42 +1,40 @@
 // The picture that a packet is for: the one held, or one that it begins.
 ghost use Rattle.std.specs.Prelude.{◌≡◌, ◌||◌, ◌==◌};
-ghost use Rattle.fragments.specs.Held.{total};
-ghost use Rattle.fragments.specs.Order as Order;
-ghost use Rattle.state.specs.Receiver.{held_fragments};
+ghost use Rattle.state.specs.WellFormed.{holding_of};
 ghost use Rattle.receiver.specs.Known.{numbers};
 ghost use Rattle.receiver.specs.Picture as Spec;
 ghost use Rattle.receiver.specs.Time.{is_newer};
 
 use crate::time::is_newer;
-use state::Receiver;
+use state::{Holding, Receiver};
 use wire::{Header, Packet};
 
 // Its numbers, without its fragments and tables, which are long to hand on: the receiver's, or, where the packet begins it, the packet's
-// own with nothing held.
+// own with nothing held. An end of 0 is not known: it is the number that the receiver has and is given.
 #[derive(Clone, Copy)]
 pub(crate) struct Numbers {
     pub(crate) begun: bool,
     pub(crate) time: u32,
     pub(crate) header: Header,
     pub(crate) end: u32,
-    pub(crate) whole: u32,
+    pub(crate) whole: bool,
     pub(crate) count: u32,
     pub(crate) held: u32,
     pub(crate) reach: u32,
 }
 
-pub(crate) fn picture_for(receiver: Receiver, held: u32, reach: u32, said: Packet) -> Numbers
-    requires { (held ≡ total (held_fragments receiver)) × (reach ≡ Order.reach (held_fragments receiver)) }
-    ensures { result ≡ numbers (Spec.starts receiver said) (Spec.picture_for receiver said) }
+#[tactic(auto, unfolding(crate::specs::Picture::picture_for))]
+pub(crate) fn picture_for(receiver: &Receiver, holding: Holding, said: Packet) -> Numbers
+    requires { holding ≡ holding_of receiver.now }
+    ensures { result ≡ numbers (Spec.starts receiver.now said) (Spec.picture_for receiver.now said) }
 {
     if starts(receiver.picture, receiver.time, said.time) {
-        let header = said.header;
         return Numbers {
             begun: true,
             time: said.time,
-            header,
+            header: said.header,
             end: 0,
-            whole: 0,
+            whole: false,
             count: 0,
             held: 0,
             reach: 0,
@@ -45,18 +43,12 @@ pub(crate) fn picture_for(receiver: Receiver, held: u32, reach: u32, said: Packe
     Numbers {
         begun: false,
         time: receiver.time,
-        header: Header {
-            kind: receiver.kind,
-            q: receiver.q,
-            width: receiver.width,
-            height: receiver.height,
-            interval: receiver.interval,
-        },
+        header: Header::from(receiver),
         end: receiver.end,
-        whole: receiver.whole,
+        whole: receiver.whole == 1,
         count: receiver.fragment_count,
-        held,
-        reach,
+        held: holding.held,
+        reach: holding.reach,
     }
 }
 
@@ -64,8 +56,5 @@ pub(crate) fn picture_for(receiver: Receiver, held: u32, reach: u32, said: Packe
 fn starts(picture: u32, held: u32, time: u32) -> bool
     ensures { result ≡ (picture == 0 || is_newer time held) }
 {
-    if picture == 0 {
-        return true;
-    }
-    is_newer(time, held)
+    picture == 0 || is_newer(time, held)
 }

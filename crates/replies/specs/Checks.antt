@@ -1,5 +1,5 @@
--- Checks in order: the first that fails gives the reply. Assumes nothing.
-use Rattle.std.specs.Prelude.{ℕ, Bool, true, false, not, List, [], ◌∷◌, ◌++◌, ◌≡◌, refl, drop}
+-- Checks in order: the first that fails gives the refusal. Assumes nothing.
+use Rattle.std.specs.Prelude.{ℕ, Bool, true, false, not, List, [], ◌∷◌, ◌++◌, ◌≡◌, refl, drop, Result, Ok, Err}
 use Rattle.std.proofs.Common.{sym, ◌∙◌, arith}
 use Rattle.std.proofs.lemmas.Bool.{not-true}
 use Rattle.laws.specs.All.{all}
@@ -7,19 +7,25 @@ use Rattle.laws.specs.Each.{Each}
 use Rattle.laws.specs.Truth.{and_true}
 use Rattle.laws.specs.Within.{within, is_none}
 use Rattle.replies.specs.Reply
-use Rattle.replies.specs.declared.Judged.{Judged}
-use Rattle.replies.specs.declared.Judged.TheVariants.{Passed, Refused}
+use Rattle.replies.specs.Refusal.{number}
+use Rattle.replies.specs.declared.Refusal.{Refusal}
 
 infix 68 ◌when◌
--- A check: the reply that it gives when it fails, and whether it fails.
+-- A check: the refusal that it gives when it fails, and whether it fails.
 pub data Check : Type 0 where
-  ◌when◌ : ℕ → Bool → Check
+  ◌when◌ : Refusal → Bool → Check
 
--- What a list of checks comes to, in their order.
+-- What a list of checks comes to, in their order: passed, or refused.
+abbrev pub Judged : Type 0
+Judged = Result Unit Refusal
+
+abbrev pub Passed : Judged
+Passed = Ok tt
+
 unfoldable pub judged : List Check → Judged
 judged [] = Passed
-judged ((n when true) ∷ checks) = Refused n
-judged ((n when false) ∷ checks) = judged checks
+judged ((r when true) ∷ checks) = Err r
+judged ((r when false) ∷ checks) = judged checks
 
 -- ---- laws
 
@@ -41,12 +47,12 @@ PastFirst k checks = Past checks (drop k checks)
 pub start : {checks : List Check} → Past checks checks
 start = record { same = refl }
 
-module _ {checks left : List Check} {n : ℕ} {b : Bool} (past : Past checks (n when b ∷ left)) where
+module _ {checks left : List Check} {r : Refusal} {b : Bool} (past : Past checks (r when b ∷ left)) where
   pub passes : b ≡ false → Past checks left
   unfolding judged
   passes e = record { same = past.same ∙ rw e }
 
-  pub fails : b ≡ true → judged checks ≡ Refused n
+  pub fails : b ≡ true → judged checks ≡ Err r
   unfolding judged
   fails e = past.same ∙ rw e
 
@@ -54,11 +60,11 @@ pub none_left : {checks : List Check} → Past checks [] → judged checks ≡ P
 unfolding judged
 none_left past = past.same
 
-never_refused : {n : ℕ} → Passed ≡ Refused n → ⊥
+never_refused : {r : Refusal} → ◌≡◌ {A = Judged} Passed (Err r) → ⊥
 never_refused e = let z : ◌≡◌ {A = ℕ} 0 1 = cc in omega arith
 
 -- two lists of checks, one after the other
-pub refused_first : {n : ℕ} (a b : List Check) → judged a ≡ Refused n → judged (a ++ b) ≡ Refused n
+pub refused_first : {r : Refusal} (a b : List Check) → judged a ≡ Err r → judged (a ++ b) ≡ Err r
 unfolding judged
 refused_first [] b e = absurd (never_refused e)
 refused_first ((m when true) ∷ a) b e = e
@@ -88,13 +94,13 @@ all_hold ((n when false) ∷ checks) e = (refl, all_hold checks e)
 
 -- a test that the number of each check passes is passed by the number of a refusal
 abbrev pub number_of : Check → ℕ
-number_of (n when b) = n
+number_of (r when b) = number r
 
 abbrev pub numbered : (ℕ → Bool) → List Check → Bool
 numbered test checks = all (λ (c : Check). test (number_of c)) checks
 
-pub refused_by : (test : ℕ → Bool) (checks : List Check) {n : ℕ} → numbered test checks ≡ true → judged checks ≡ Refused n → test n ≡ true
+pub refused_by : (test : ℕ → Bool) (checks : List Check) {r : Refusal} → numbered test checks ≡ true → judged checks ≡ Err r → test (number r) ≡ true
 unfolding judged
 refused_by test [] a e = absurd (never_refused e)
-refused_by test ((m when true) ∷ checks) {n} a e = let same : m ≡ n = cc in rw same at (and_true (test m) (numbered test checks) a).0
-refused_by test ((m when false) ∷ checks) a e = refused_by test checks (and_true (test m) (numbered test checks) a).1 e
+refused_by test ((m when true) ∷ checks) {r} a e = let same : m ≡ r = cc in rw same at (and_true (test (number m)) (numbered test checks) a).0
+refused_by test ((m when false) ∷ checks) a e = refused_by test checks (and_true (test (number m)) (numbered test checks) a).1 e

@@ -1,3 +1,4 @@
 pub mod Reply
+pub mod Refusal
 pub mod Output
 pub mod Checks

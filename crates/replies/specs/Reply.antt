@@ -1,4 +1,4 @@
--- The reply numbers of document 01, each under the name of what it means. Assumes nothing.
+-- The reply numbers that C is answered, each under the name of what it means. Assumes nothing.
 use Rattle.std.specs.Prelude.{ℕ}
 
 -- opening, table making, the sender or the builder has done what was asked

@@ -82,16 +82,12 @@ pub holding : {p : Picture} {size rest taken : ℕ} → Fit p size → rest ≡ 
 holding {p} {size} {rest} {taken} fit behind first = record {
   behind = behind;
   first = first;
-  apart = omega (arith, fit.packet_size, restart_small p.header not_by_intervals, tables_small p.header p.tables 0 (few_tables fit));
+  apart = omega (arith, fit.packet_size, restart_small p.header not_by_intervals, tables_small p.header p.tables 0, few_tables fit);
 }
 
--- the products in it, which arithmetic on sums does not see
+-- the product in it, which arithmetic on sums does not see
 pub place_next : (k rest : ℕ) → (k + 1) * rest ≡ k * rest + rest
 place_next k rest = rw (add-one k) (suc-mul k rest)
-
-pub place_past : (k rest : ℕ) → (k ≡ 0 → ⊥) → rest ≤ k * rest
-place_past zero rest n = absurd (n refl)
-place_past (suc k) rest n = omega (arith, suc-mul k rest)
 
 module _ {size : ℕ} {p : Picture} {rest taken : ℕ} (holds : Holds size p rest taken) where
   front : begin rest taken 0 ≡ 0

@@ -67,7 +67,7 @@ module _ (holds : ℕ → ℕ) where
 module _ {p : Picture} {size : ℕ} (fit : Fit p size) where
   pub some_capacity : (offset : ℕ) → 1 ≤ capacity size p offset
   unfolding capacity
-  some_capacity offset = omega (arith, fit.packet_size, length_headers p.header p.tables offset, restart_small p.header not_by_intervals, tables_small p.header p.tables offset (few_tables fit))
+  some_capacity offset = omega (arith, fit.packet_size, length_headers p.header p.tables offset, restart_small p.header not_by_intervals, tables_small p.header p.tables offset, few_tables fit)
 
   pub cuts_tile : Tiles 0 (cuts size p) (length p.scan)
   unfolding cuts

@@ -6,8 +6,8 @@ use Rattle.laws.specs.Any.{any}
 use Rattle.laws.specs.Truth.{split, never_both, and_true}
 use Rattle.laws.specs.Within.{within, Between, between}
 use Rattle.replies.specs.Checks.{Check, judged, ◌when◌, all_hold}
-use Rattle.replies.specs.Reply
-use Rattle.replies.specs.declared.Judged.TheVariants.{Passed}
+use Rattle.replies.specs.declared.Refusal.TheVariants as Refusal
+use Rattle.replies.specs.Checks.{Passed}
 use Rattle.wire.specs.Lawful.{Lawful, is_lawful, lawful}
 use Rattle.wire.specs.TableSource.{table_source, is_in_band, is_always_brought}
 use Rattle.wire.specs.Tables.{is_zero, are_full}
@@ -25,10 +25,10 @@ tables_fit Reserved t = false
 -- 40, 41, 42, 43
 abbrev pub picture_checks : Picture → ℕ → List Check
 picture_checks p size =
-    Reply.parameters when not (is_lawful p.header)
-    ∷ Reply.scan_length when not (within 1 65536 (length p.scan))
-    ∷ Reply.packet_size when not (within 192 1472 size)
-    ∷ Reply.sent_tables when not (tables_fit (table_source p.header.q) p.tables)
+    Refusal.Parameters when not (is_lawful p.header)
+    ∷ Refusal.ScanLength when not (within 1 65536 (length p.scan))
+    ∷ Refusal.PacketSize when not (within 192 1472 size)
+    ∷ Refusal.SentTables when not (tables_fit (table_source p.header.q) p.tables)
     ∷ []
 
 -- What these checks leave of a picture and a packet size.

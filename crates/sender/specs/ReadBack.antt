@@ -1,5 +1,5 @@
 -- The reader gives back what was sent: the packet of any fragment of a picture's scan, however the scan is cut. Assumes nothing.
-use Rattle.std.specs.Prelude.{◌≡◌, ℕ, ◌+◌, ◌^◌, ◌<◌, ◌≤◌, true, false, cond, ◌&&◌, List, [], ◌∷◌, ◌++◌, length, drop, ◌==◌, nat_eq}
+use Rattle.std.specs.Prelude.{◌≡◌, ℕ, ◌+◌, ◌^◌, ◌<◌, ◌≤◌, true, false, cond, ◌&&◌, List, [], ◌∷◌, ◌++◌, length, drop, ◌==◌, nat_eq, Ok}
 use Rattle.std.proofs.Common.{append_assoc, sym, ◌∙◌, add-zero}
 use Rattle.std.proofs.Math.Logic.{⊎_elim}
 use Rattle.std.proofs.Math.Path.{ap}
@@ -15,7 +15,7 @@ use Rattle.laws.specs.Lists.{empty}
 use Rattle.laws.specs.Spelled.{spelled}
 use Rattle.laws.specs.Truth.{split, never_both, and_true, same}
 use Rattle.replies.specs.Checks.{judged, passed_first}
-use Rattle.replies.specs.declared.Judged.TheVariants.{Passed}
+use Rattle.replies.specs.Checks.{Passed}
 use Rattle.wire.specs.Field.{field, field_2}
 use Rattle.wire.specs.Kind.{restarts_of, are_present}
 use Rattle.wire.specs.Lawful.{Lawful}
@@ -27,7 +27,6 @@ use Rattle.wire.specs.Rtp.{longest, fixed, fixed_end, headers_end, dropped, padd
 use Rattle.wire.specs.TableSource.{table_source, is_in_band}
 use Rattle.wire.specs.Tables.{has_table_header, tables_length, precision, tables_at, scan_at, tables, table_rule_broken, rule_without, rule_none, rule_full}
 use Rattle.wire.specs.declared.Packet.{Packet}
-use Rattle.wire.specs.declared.Reading.TheVariants as Answer
 use Rattle.sender.specs.Fit.{tables_fit, none_or_full}
 use Rattle.sender.specs.Packet.{rtp_header, main_header, restart_header, not_by_intervals, table_header, scan_begins, packet, length_packet}
 use Rattle.sender.specs.Picture.{Picture}
@@ -54,7 +53,7 @@ tables_due p offset = cond (offset == 0) p.tables []
 -- What a reader of that source makes of the bytes of a packet that carries the fragment c.
 pub record ReadBack (s : Stamp) (p : Picture) (c : Fragment) (bytes : List ℕ) : Type 0 where
   pub said : Packet
-  pub read : reading s.source bytes ≡ Answer.Said said
+  pub read : reading s.source bytes ≡ Ok said
   pub marker : said.marker ≡ c.marker
   pub time : said.time ≡ s.time
   pub offset : said.offset ≡ c.offset
@@ -217,7 +216,7 @@ module _ (s : Stamp) (p : Picture) (k : ℕ) (c : Fragment) (sendable : Sendable
       let h : length (packet s p k c) ≤ longest = rw (length_packet s p k c carried.inside) carried.short in
       rw (packet_parts s p k c) at h
 
-  parts_read : reading s.source (rtp_header s k c.marker ++ body p c) ≡ Answer.Said (said (rtp_header s k c.marker ++ body p c))
+  parts_read : reading s.source (rtp_header s k c.marker ++ body p c) ≡ Ok (said (rtp_header s k c.marker ++ body p c))
   unfolding reading
   parts_read =
       let r = rtp_header s k c.marker ++ body p c in

@@ -4,8 +4,8 @@ use Rattle.std.proofs.Common.{ltb-false, leb-false}
 use Rattle.fragments.specs.Fragments.{fragment_at}
 use Rattle.replies.specs.Checks.{Check, judged, ◌when◌, both_passed, all_hold}
 use Rattle.replies.specs.Output.{Decision, Writes, decided}
-use Rattle.replies.specs.Reply
-use Rattle.replies.specs.declared.Judged.TheVariants.{Passed}
+use Rattle.replies.specs.declared.Refusal.TheVariants as Refusal
+use Rattle.replies.specs.Checks.{Passed}
 use Rattle.replies.specs.declared.Written.{Written}
 use Rattle.sender.specs.Cuts.{cuts}
 use Rattle.sender.specs.Fit.{picture_checks, Fit, fits}
@@ -16,8 +16,8 @@ use Rattle.sender.specs.declared.Stamp.{Stamp}
 -- 44 and 45, of n packets
 abbrev pub cut_checks : ℕ → ℕ → List Check
 cut_checks n k =
-    Reply.over_64_packets when nat_lt 64 n
-    ∷ Reply.index_too_large when nat_le n k
+    Refusal.Over64Packets when nat_lt 64 n
+    ∷ Refusal.IndexTooLarge when nat_le n k
     ∷ []
 
 abbrev pub checks : Picture → ℕ → ℕ → List Check
@@ -29,7 +29,7 @@ sending p size s k = decided (judged (checks p size k)) (packet s p k (fragment_
 
 -- The outcome of `packet`.
 abbrev pub Sends : Picture → ℕ → Stamp → ℕ → List ℕ → Written → List ℕ → Type 0
-Sends p size s k before w after = Writes Reply.packet_output (sending p size s k) before w after
+Sends p size s k before w after = Writes Refusal.PacketOutput (sending p size s k) before w after
 
 -- What the checks leave: a picture that fits, of at most 64 packets, and one of them.
 pub record Accepted (p : Picture) (size k : ℕ) : Type 0 where

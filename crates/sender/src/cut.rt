@@ -5,28 +5,36 @@ ghost use Rattle.fragments.specs.Fragments.{fragment_at};
 ghost use Rattle.sender.specs.Sending.{Accepted};
 ghost use Rattle.sender.specs.Cuts.{cuts};
 ghost use Rattle.sender.specs.Packet.{not_by_intervals, restart_header};
-ghost use Rattle.sender.specs.Picture.{picture};
+ghost use Rattle.sender.specs.Picture.{contents};
 
-use crate::headers::{RESTART_AT, restart_length, taken_by_tables};
+use crate::Picture;
+use crate::headers::{RESTART_AT, restart_length};
 use fragments::Fragment;
-use wire::Header;
 
-pub(crate) fn cut_at(header: Header, tables: &[u8], scan: &[u8], size: u32, k: u32) -> Fragment
-    requires { Accepted (picture header tables.now scan.now) size k }
-    ensures { result ≡ fragment_at (cuts size (picture header tables.now scan.now)) k }
-{
-    let capacity = capacity_behind(header, size);
-    let taken = taken_by_tables(header, tables);
-    let begin = if k == 0 {
-        0
-    } else {
-        k as usize * capacity - taken
-    };
-    let end = (k as usize + 1) * capacity - taken;
-    if scan.len() <= end {
-        return cut(begin, scan.len(), 1);
+impl Picture<'_> {
+    pub(crate) fn cut_at(self, size: u32, k: u32) -> Fragment
+        requires { Accepted (contents self) size k }
+        ensures { result ≡ fragment_at (cuts size (contents self.entry)) k }
+    {
+        let capacity = self.capacity_behind(size);
+        let taken = self.tables_length(0);
+        let begin = (k as usize * capacity).saturating_sub(taken);
+        let end = (k as usize + 1) * capacity - taken;
+        if self.scan.len() <= end {
+            cut(begin, self.scan.len(), 1)
+        } else {
+            cut(begin, end, 0)
+        }
     }
-    cut(begin, end, 0)
+
+    // The scan bytes that a packet behind the first holds.
+    #[tactic(auto, using(crate::specs::Packet::restart_small))]
+    pub(crate) fn capacity_behind(self, size: u32) -> usize
+        requires { 24 ≤ size }
+        ensures { result ≡ size - (20 + length (restart_header self.entry.header not_by_intervals)) }
+    {
+        size as usize - RESTART_AT - restart_length(self.header)
+    }
 }
 
 fn cut(begin: usize, end: usize, marker: u32) -> Fragment
@@ -38,12 +46,4 @@ fn cut(begin: usize, end: usize, marker: u32) -> Fragment
         length: (end - begin) as u32,
         marker,
     }
-}
-
-// The scan bytes that a packet behind the first holds.
-pub(crate) fn capacity_behind(header: Header, size: u32) -> usize
-    requires { 24 ≤ size }
-    ensures { result ≡ size - (20 + length (restart_header header not_by_intervals)) }
-{
-    size as usize - RESTART_AT - restart_length(header)
 }

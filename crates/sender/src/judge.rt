@@ -4,75 +4,68 @@ ghost use Rattle.replies.specs.Checks.{judged};
 ghost use Rattle.wire.specs.TableSource.{table_source};
 ghost use Rattle.sender.specs.Fit.{Fit, picture_checks, tables_fit};
 ghost use Rattle.sender.specs.Cuts.{cuts};
-ghost use Rattle.sender.specs.Picture.{picture};
+ghost use Rattle.sender.specs.Picture.{contents};
 ghost use Rattle.sender.specs.Sending.{checks, cut_checks};
 
-use crate::cut::capacity_behind;
-use crate::headers::taken_by_tables;
-use replies::{
-    INDEX_TOO_LARGE, Judged, OVER_64_PACKETS, PACKET_SIZE, PARAMETERS, SCAN_LENGTH, SENT_TABLES,
-};
-use wire::{Header, TableSource};
+use crate::Picture;
+use replies::Refusal;
+use wire::TableSource;
 
-pub(crate) fn judge(header: Header, tables: &[u8], scan: &[u8], size: u32, k: u32) -> Judged
-    ensures { result ≡ judged (checks (picture header tables.now scan.now) size k) }
-{
-    let picture = judge_picture(header, tables, scan, size);
-    if let Judged::Refused(_) = picture {
-        return picture;
+impl Picture<'_> {
+    pub(crate) fn judge(self, size: u32, k: u32) -> Result<(), Refusal>
+        ensures { result ≡ judged (checks (contents self.entry) size k) }
+    {
+        self.judge_limits(size)?;
+        self.judge_cuts(size, k)
     }
-    judge_cuts(header, tables, scan, size, k)
-}
 
-fn judge_picture(header: Header, tables: &[u8], scan: &[u8], size: u32) -> Judged
-    ensures { result ≡ judged (picture_checks (picture header tables.now scan.now) size) }
-{
-    if !wire::is_lawful(header) {
-        return Judged::Refused(PARAMETERS);
+    #[tactic(auto, unfolding(laws::specs::Within::within, replies::specs::Checks::judged))]
+    fn judge_limits(self, size: u32) -> Result<(), Refusal>
+        ensures { result ≡ judged (picture_checks (contents self.entry) size) }
+    {
+        if !wire::is_lawful(self.header) {
+            return Err(Refusal::Parameters);
+        }
+        if !(1..=65536).contains(&self.scan.len()) {
+            return Err(Refusal::ScanLength);
+        }
+        if !(192..=1472).contains(&size) {
+            return Err(Refusal::PacketSize);
+        }
+        if !self.tables_fit() {
+            return Err(Refusal::SentTables);
+        }
+        Ok(())
     }
-    if scan.len() < 1 {
-        return Judged::Refused(SCAN_LENGTH);
-    }
-    if 65536 < scan.len() {
-        return Judged::Refused(SCAN_LENGTH);
-    }
-    if size < 192 {
-        return Judged::Refused(PACKET_SIZE);
-    }
-    if 1472 < size {
-        return Judged::Refused(PACKET_SIZE);
-    }
-    if !tables_fit(header.q, tables) {
-        return Judged::Refused(SENT_TABLES);
-    }
-    Judged::Passed
-}
 
-fn tables_fit(q: u32, tables: &[u8]) -> bool
-    ensures { result ≡ tables_fit (table_source q) tables.now }
-{
-    let bare = tables.len() == 0;
-    let full = wire::are_full(tables);
-    match wire::table_source(q) {
-        TableSource::Made => bare,
-        TableSource::KeptOrBrought => bare || full,
-        TableSource::AlwaysBrought => full,
-        TableSource::Reserved => false,
+    fn tables_fit(self) -> bool
+        ensures { result ≡ tables_fit (table_source self.entry.header.q) self.entry.tables.now }
+    {
+        let bare = self.tables.is_empty();
+        let full = wire::are_full(self.tables);
+        match wire::table_source(self.header.q) {
+            TableSource::Made => bare,
+            TableSource::KeptOrBrought => bare || full,
+            TableSource::AlwaysBrought => full,
+            TableSource::Reserved => false,
+        }
     }
-}
 
-// There are more than n packets where the scan, and what the table header takes of the first packet, are more than n packets hold.
-fn judge_cuts(header: Header, tables: &[u8], scan: &[u8], size: u32, k: u32) -> Judged
-    requires { Fit (picture header tables.now scan.now) size }
-    ensures { result ≡ judged (cut_checks (length (cuts size (picture header tables.now scan.now))) k) }
-{
-    let capacity = capacity_behind(header, size);
-    let all = taken_by_tables(header, tables) + scan.len();
-    if 64 * capacity < all {
-        return Judged::Refused(OVER_64_PACKETS);
+    // There are more than n packets where the scan, and what the table header takes of the first packet, are more than n packets
+    // hold.
+    #[tactic(auto, using(crate::specs::Packet::tables_small))]
+    fn judge_cuts(self, size: u32, k: u32) -> Result<(), Refusal>
+        requires { Fit (contents self) size }
+        ensures { result ≡ judged (cut_checks (length (cuts size (contents self.entry))) k) }
+    {
+        let capacity = self.capacity_behind(size);
+        let all = self.tables_length(0) + self.scan.len();
+        if 64 * capacity < all {
+            return Err(Refusal::Over64Packets);
+        }
+        if all <= k as usize * capacity {
+            return Err(Refusal::IndexTooLarge);
+        }
+        Ok(())
     }
-    if all <= k as usize * capacity {
-        return Judged::Refused(INDEX_TOO_LARGE);
-    }
-    Judged::Passed
 }

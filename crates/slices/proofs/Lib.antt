@@ -1,1 +1,1 @@
-mod Chunk
+mod Place

@@ -1,16 +1,19 @@
--- The rules in the order in which the check asks for them, which are the same. Assumes nothing.
-use mathlib.Core.Bool.{Bool, true, ◌&&◌}
-use mathlib.Core.Path.{◌≡◌}
+-- The rules in the order in which the check asks for them, and by a survey of the fragments: they are the same. Assumes nothing.
+use Rattle.std.proofs.Common.{◌≡◌, ℕ, Bool, true, cond, ◌&&◌, List, sym, ap, ◌∙◌, leb, eqb}
 use borrow.Author.Tests.{leb-true, le-leb, eqb-true, eq-eqb}
-use Rattle.fragments.specs.Array.{is_nothing}
+use Rattle.fragments.specs.Array.{is_nothing, surveyed, Surveys}
 use Rattle.fragments.specs.Held as Held
-use Rattle.fragments.specs.Order.{in_place, known_in_place, is_in_place}
+use Rattle.fragments.specs.Order.{in_place, known_in_place, is_in_place, in_line, in_line_in_place}
+use Rattle.fragments.specs.declared.Fragment.{Fragment}
+use Rattle.fragments.specs.declared.Surveyed.{Surveyed}
 use Rattle.kept.specs.Kept.{well_kept}
+use Rattle.fragments.specs.Shared.{holds}
 use Rattle.laws.specs.All.{all}
-use Rattle.laws.specs.Truth.{and_true, same_test}
+use Rattle.laws.specs.Any.{any}
+use Rattle.laws.specs.Truth.{split, and_true, and_false, same_test}
 use Rattle.laws.specs.Within.{is_within, between}
 use Rattle.state.specs.Receiver.{held_fragments, unused, header_of}
-use Rattle.state.specs.WellFormed.{is_room, is_count, picture_right, end_right, whole_right, flag, tables_right, fragments_right, well_formed, known_well_formed, is_well_formed}
+use Rattle.state.specs.WellFormed.{is_room, is_count, picture_right, end_right, whole_right, flag, tables_given, tables_right, fragments_right, well_formed, known_well_formed, is_well_formed}
 use Rattle.state.specs.declared.Receiver.{Receiver}
 
 abbrev pub picture_of : Receiver → Bool
@@ -77,3 +80,20 @@ module _ (r : Receiver) where
             w.tables,
           )
           w.kept
+
+-- the rules of the fragments, by the fields of a survey
+pub fragments_told : {s : Surveyed} (room end whole : ℕ) (fs behind : List Fragment) → s ≡ surveyed fs behind →
+    (s.ordered && leb s.stop room && leb s.marker 1 && s.clear && eqb end (cond (eqb s.marker 1) s.stop 0) && eqb whole (flag (Held.reached end s.bytes))) ≡ fragments_right fs behind room end whole
+unfolding in_line fragments_right
+fragments_told room end whole fs behind e = rw (e, in_line_in_place room fs) (split (in_place room fs)
+    (λ p. rw (p, ← Held.end_last fs (known_in_place room fs p).marked) (split (eqb end (Held.end_of fs)) (λ q. rw (eqb-true end (Held.end_of fs) q)) (λ q. rw (q, and_false (all is_nothing behind)))))
+    (λ p. rw p))
+
+-- all of them, by what a survey tells of byte 0
+pub all_told : (r : Receiver) {s : Surveyed} → Surveys r.fragments r.fragment_count s →
+    (is_room r.room && is_count r.fragment_count && picture_of r && fragments_of r && tables_given s.from_0 r.q r.tables && well_kept r.kept) ≡ well_formed r
+unfolding grouped
+all_told r {s} survey = split (fragments_of r) (λ f. rw (from_0 f) (regrouped r)) (λ f. let none = and_false (is_room r.room && is_count r.fragment_count && picture_of r) in rw (f, none) (rw (f, none) at (regrouped r)))
+  where
+    from_0 : fragments_of r ≡ true → s.from_0 ≡ any (holds 0) (held_fragments r)
+    from_0 f = ap (λ (s : Surveyed). s.from_0) survey ∙ sym (Held.start_held (held_fragments r) (known_in_place r.room (held_fragments r) (are_in_place r f)).order)

@@ -1,2 +1,1 @@
-mod Grouped
-mod Zeros
+pub mod Grouped

@@ -1,5 +1,5 @@
--- The rules of a well-formed receiver, as document 01 has them under "Well formed means". Assumes nothing.
-use Rattle.std.specs.Prelude.{ℕ, ◌≤◌, Bool, true, false, cond, not, ◌&&◌, List, [], ◌∷◌, ◌≡◌, eqb, leb}
+-- The rules of a well-formed receiver. Assumes nothing.
+use Rattle.std.specs.Prelude.{ℕ, ◌≤◌, Bool, true, false, cond, not, ◌&&◌, List, [], ◌∷◌, ◌≡◌, eqb, leb, Result, Ok, Err}
 use Rattle.std.proofs.Math.Path.{refl}
 use Rattle.std.proofs.Common.{arith}
 use borrow.Author.Tests.{leb-true, le-leb, eqb-true, eq-eqb}
@@ -19,33 +19,33 @@ use Rattle.wire.specs.Tables.{is_zero}
 use Rattle.wire.specs.TableSource.{table_source, is_made}
 use Rattle.wire.specs.declared.Header.{Header}
 use Rattle.kept.specs.Kept.{well_kept}
+use Rattle.replies.specs.declared.Refusal.{Refusal}
 use Rattle.state.specs.Receiver.{held_fragments, unused, header_of}
-use Rattle.state.specs.declared.Inspected.{Inspected}
-use Rattle.state.specs.declared.Inspected.TheVariants.{NotWellFormed, Holds}
+use Rattle.state.specs.declared.Holding.{Holding}
 use Rattle.state.specs.declared.Receiver.{Receiver}
 
--- "room 1 to 65,536"
+-- its room is 1 to 65,536 bytes
 abbrev pub is_room : ℕ → Bool
 is_room room = within 1 65536 room
 
--- "up to 64 fragments"
+-- it holds 64 fragments at most
 abbrev pub is_count : ℕ → Bool
 is_count count = leb count 64
 
--- "whatever is unused … 0": with no picture nothing is known of one, and no fragment held. That end, places and tables are 0 then,
--- and that it is not whole, is in the rules below.
+-- What is not used is 0: with no picture nothing is known of one, and no fragment held. That end, places and tables are 0 then, and
+-- that it is not whole, is in the rules below.
 unfoldable pub is_unset : ℕ → ℕ → Header → Bool
 is_unset time count h = all is_zero (time ∷ count ∷ h.kind ∷ h.q ∷ h.width ∷ h.height ∷ h.interval ∷ [])
 
--- "a picture's header fields such as the reader can give"; the flag is 1 with a picture and 0 without
+-- the flag is 1 with a picture, whose header fields are such as the reader can give, and 0 without
 unfoldable pub picture_right : ℕ → ℕ → ℕ → Header → Bool
 picture_right picture time count h = cond (eqb picture 0) (is_unset time count h) (eqb picture 1 && is_lawful h)
 
--- "a marker …, giving the end", which is 0 while it is not known
+-- the end is where the fragment with the marker ends, and 0 while there is none
 abbrev pub end_right : ℕ → List Fragment → Bool
 end_right end fs = eqb end (Held.end_of fs)
 
--- "whole exactly as defined": 1 or 0
+-- a flag in a struct that C sees: 1 or 0
 abbrev pub flag : Bool → ℕ
 flag b = cond b 1 0
 
@@ -56,7 +56,7 @@ TellsWhole end bytes w = w ≡ flag (Held.reached end bytes)
 abbrev pub whole_right : ℕ → List Fragment → Bool
 whole_right whole fs = eqb whole (flag (Held.whole fs))
 
--- "tables 0 until offset 0 is held, then as made for Q 1 to 99, else without a 0"
+-- the tables are 0 until byte 0 of the scan is held; from then on those made for a Q of 1 to 99, and for any other without a 0
 abbrev pub start_held : List Fragment → Bool
 start_held fs = any (holds 0) fs
 
@@ -69,9 +69,8 @@ tables_given started q tables = cond started (are_of q tables) (all is_zero tabl
 abbrev pub tables_right : List Fragment → ℕ → List ℕ → Bool
 tables_right fs q tables = tables_given (start_held fs) q tables
 
--- All of it: besides these, `in_place` has "fragments of 1 byte or more, rising, apart and inside the room" and "a marker on the last
--- fragment at most", `is_nothing` "whatever is unused … 0" of the places behind them, and `well_kept` the store's own rule. "Nothing
--- else is tested."
+-- All of it: besides these, `in_place` says that the fragments have a byte or more, rise, lie apart and inside the room, and that only
+-- the last may have the marker; `is_nothing`, that the places behind them are 0; and `well_kept` is the store's own rule.
 unfoldable pub well_formed : Receiver → Bool
 well_formed r =
     is_room r.room
@@ -84,12 +83,22 @@ well_formed r =
     && well_kept r.kept
     && whole_right r.whole (held_fragments r)
 
--- What a look at a receiver tells, if it is well formed: how many scan bytes it holds, and where the last of them ends.
-unfoldable pub inspected : Receiver → Inspected
-inspected r = cond (well_formed r) (Holds (Held.total (held_fragments r)) (reach (held_fragments r))) NotWellFormed
+-- What a receiver holds: how many scan bytes, and where the last of them ends.
+abbrev pub Look : Type 0
+Look = Result Holding Refusal
+
+abbrev pub holding : ℕ → ℕ → Holding
+holding held reach = record { held = held; reach = reach }
+
+abbrev pub holding_of : Receiver → Holding
+holding_of r = holding (Held.total (held_fragments r)) (reach (held_fragments r))
+
+-- What a look at a receiver tells: what it holds, if it is well formed, and else the refusal.
+unfoldable pub inspected : Receiver → Look
+inspected r = cond (well_formed r) (Ok (holding_of r)) (Err Refusal.NotWellFormed)
 
 -- The outcome of `inspect`.
-abbrev pub Inspects : Receiver → Inspected → Type 0
+abbrev pub Inspects : Receiver → Look → Type 0
 Inspects r i = i ≡ inspected r
 
 -- The rules of the fragments, in the group in which the check asks for them.
@@ -168,23 +177,23 @@ reach_within_room {r} w = reach_within r.room (held_fragments r) w.placed.inside
 
 -- a look at a receiver, by whether it is well formed
 module _ (r : Receiver) where
-  pub inspected_holds : well_formed r ≡ true → inspected r ≡ Holds (Held.total (held_fragments r)) (reach (held_fragments r))
+  pub inspected_holds : well_formed r ≡ true → inspected r ≡ Ok (holding_of r)
   unfolding inspected
   inspected_holds e = rw e
 
-  pub inspected_not : well_formed r ≡ false → inspected r ≡ NotWellFormed
+  pub inspected_not : well_formed r ≡ false → inspected r ≡ Err Refusal.NotWellFormed
   unfolding inspected
   inspected_not e = rw e
 
-  pub holds_inspected : {n m : ℕ} → inspected r ≡ Holds n m → (well_formed r ≡ true) × (n ≡ Held.total (held_fragments r)) × (m ≡ reach (held_fragments r))
-  holds_inspected {n} {m} i = split (well_formed r)
-      (λ e. let h = inspected_holds e in (e, cc, cc))
-      (λ e. let h = inspected_not e in let z : ◌≡◌ {A = ℕ} 0 1 = cc in absurd (omega arith))
+  pub holds_inspected : {h : Holding} → inspected r ≡ Ok h → (well_formed r ≡ true) × (h ≡ holding_of r)
+  holds_inspected {h} i = split (well_formed r)
+      (λ e. let o = inspected_holds e in (e, cc))
+      (λ e. let o = inspected_not e in let z : ◌≡◌ {A = ℕ} 0 1 = cc in absurd (omega arith))
 
-  pub not_inspected : inspected r ≡ NotWellFormed → well_formed r ≡ false
-  not_inspected i = split (well_formed r)
-      (λ e. let h = inspected_holds e in let z : ◌≡◌ {A = ℕ} 0 1 = cc in absurd (omega arith))
-      (λ e. e)
+  pub not_inspected : {n : Refusal} → inspected r ≡ Err n → (well_formed r ≡ false) × (n ≡ Refusal.NotWellFormed)
+  not_inspected {n} i = split (well_formed r)
+      (λ e. let o = inspected_holds e in let z : ◌≡◌ {A = ℕ} 0 1 = cc in absurd (omega arith))
+      (λ e. let o = inspected_not e in (e, cc))
 
 -- what there is without a picture, and with one
 module _ (time count : ℕ) (h : Header) where

@@ -6,12 +6,12 @@ mod check;
 ghost use Rattle.std.specs.Prelude.{◌≡◌, length};
 ghost use Rattle.fragments.specs.Array.{Surveys};
 ghost use Rattle.state.specs.Opening.{Opens};
-ghost use Rattle.state.specs.Receiver.{fresh};
+ghost use Rattle.state.specs.Receiver.{fresh, header_of};
 ghost use Rattle.state.specs.WellFormed.{is_room, well_formed, Inspects, TellsWhole};
 
 use fragments::{Fragment, Surveyed};
 use kept::Kept;
-use replies::{ROOM_OUTSIDE, SUCCESS};
+use replies::{Refusal, SUCCESS};
 use wire::Header;
 
 // Every field is a number, flags too, and there is no padding: every bit pattern that a host can lend is a state. 0 stands for an end
@@ -51,14 +51,29 @@ pub struct Opened {
     pub receiver: Receiver,
 }
 
-// What a look at a receiver tells: that it does not keep its rules, or how many scan bytes it holds, and where the last of them ends.
-#[derive(Clone, Copy)]
-pub enum Inspected {
-    NotWellFormed,
-    Holds(u32, u32),
+// How many scan bytes a receiver holds, and where the last of them ends.
+#[derive(Clone, Copy, Debug, PartialEq, Eq)]
+pub struct Holding {
+    pub held: u32,
+    pub reach: u32,
 }
 
-// A receiver of a source, with `room` bytes for its scan.
+// The header fields of its picture.
+impl From<&Receiver> for Header {
+    ghost from_gives = { λ r h. h ≡ header_of r.now };
+
+    fn from(receiver: &Receiver) -> Self {
+        Self {
+            kind: receiver.kind,
+            q: receiver.q,
+            width: receiver.width,
+            height: receiver.height,
+            interval: receiver.interval,
+        }
+    }
+}
+
+// A receiver of a source, with `room` bytes for its scan. No Result: a refusal too hands C a receiver, a fresh one of room 0.
 #[tactic(auto, unfolding(crate::specs::Opening::opening))]
 pub fn open(source: u32, room: u32) -> Opened
     ensures { Opens source room result }
@@ -66,7 +81,7 @@ pub fn open(source: u32, room: u32) -> Opened
     if !is_room(room) {
         return Opened {
             answer: Answer {
-                reply: ROOM_OUTSIDE,
+                reply: Refusal::RoomOutside.number(),
                 held: 0,
             },
             receiver: fresh(source, 0),
@@ -85,18 +100,13 @@ pub fn open(source: u32, room: u32) -> Opened
 fn is_room(room: u32) -> bool
     ensures { result ≡ is_room room }
 {
-    if room < 1 {
-        return false;
-    }
-    room <= 65536
+    (1..=65536).contains(&room)
 }
 
 #[tactic(auto, unfolding(kept::specs::Kept::blank))]
 fn fresh(source: u32, room: u32) -> Receiver
     ensures { result ≡ fresh source room }
 {
-    let fragments = fragments::none();
-    let kept = kept::none();
     Receiver {
         source,
         room,
@@ -110,67 +120,45 @@ fn fresh(source: u32, room: u32) -> Receiver
         end: 0,
         whole: 0,
         fragment_count: 0,
-        fragments,
+        fragments: fragments::none(),
         tables: [0; 128],
-        kept,
+        kept: kept::none(),
     }
 }
 
-// How many scan bytes a receiver holds that keeps every rule of document 01's "Well formed means", and nothing else; reply 9 is for one
-// that does not. The second clause hands on what the array's type says.
-pub fn inspect(receiver: Receiver) -> Inspected
-    ensures inspects { Inspects receiver result }
-    ensures fragments_len { length receiver.fragments ≡ 64 }
+// What a receiver holds that keeps every rule of a well-formed one; any other is refused. The second clause hands on what the array's
+// type says.
+pub fn inspect(receiver: &Receiver) -> Result<Holding, Refusal>
+    ensures inspects { Inspects receiver.now result }
+    ensures fragments_len { length receiver.now.fragments ≡ 64 }
 {
-    let fragments = receiver.fragments;
-    let survey = fragments::survey(fragments, receiver.fragment_count);
+    let survey = fragments::survey(&receiver.fragments, receiver.fragment_count);
     if !well_formed(receiver, survey) {
-        return Inspected::NotWellFormed;
+        return Err(Refusal::NotWellFormed);
     }
     let held = survey.bytes as u32;
     let reach = survey.stop as u32;
-    Inspected::Holds(held, reach)
+    Ok(Holding { held, reach })
 }
 
 // The rules, with the survey of the fragments held.
-fn well_formed(receiver: Receiver, survey: Surveyed) -> bool
-    requires { Surveys receiver.fragments receiver.fragment_count survey }
-    ensures { result ≡ well_formed receiver }
+fn well_formed(receiver: &Receiver, survey: Surveyed) -> bool
+    requires { Surveys receiver.now.fragments receiver.now.fragment_count survey }
+    ensures { result ≡ well_formed receiver.now }
 {
-    if !is_room(receiver.room) {
-        return false;
-    }
+    let header = Header::from(receiver);
     let count = receiver.fragment_count;
-    if 64 < count {
-        return false;
-    }
-    let header = Header {
-        kind: receiver.kind,
-        q: receiver.q,
-        width: receiver.width,
-        height: receiver.height,
-        interval: receiver.interval,
-    };
-    if !check::picture_right(receiver.picture, receiver.time, count, header) {
-        return false;
-    }
-    if !check::fragments_right(survey, receiver.room, receiver.end, receiver.whole) {
-        return false;
-    }
-    let tables = receiver.tables;
-    if !check::tables_right(survey.from_0, receiver.q, tables) {
-        return false;
-    }
-    let kept = receiver.kept;
-    kept::well_kept(kept)
+    let picture = check::picture_right(receiver.picture, receiver.time, count, header);
+    let fragments = check::fragments_right(survey, receiver.room, receiver.end, receiver.whole);
+    let tables = check::tables_right(survey.from_0, receiver.q, &receiver.tables);
+    let kept = kept::well_kept(&receiver.kept);
+    is_room(receiver.room) && count <= 64 && picture && fragments && tables && kept
 }
 
 // The flag of a whole picture: 1 where the end is known and the bytes held add up to it.
+#[tactic(auto, unfolding(fragments::specs::Held::reached))]
 pub fn whole_flag(end: u32, bytes: u64) -> u32
     ensures { TellsWhole end bytes result }
 {
-    if end == 0 {
-        return 0;
-    }
-    if bytes == end as u64 { 1 } else { 0 }
+    u32::from(end != 0 && bytes == u64::from(end))
 }

@@ -4,7 +4,7 @@ use Rattle.std.proofs.Common.{append-nil, ◌∙◌, arith, drop_of_length-le}
 use borrow.Author.Tests.{le-ltb, le-leb, lt-leb}
 use Rattle.laws.specs.Within.{within, Between, is_within, is_under, is_over}
 use Rattle.replies.specs.Checks.{Check, judged, ◌when◌}
-use Rattle.replies.specs.Reply
+use Rattle.replies.specs.declared.Refusal.TheVariants as Refusal
 use Rattle.replies.specs.Output.{Decision, Writes, decided}
 use Rattle.replies.specs.Output.Decision.{refuse, write}
 use Rattle.replies.specs.declared.Written.{Written}
@@ -12,7 +12,7 @@ use Rattle.tables.specs.Quantiser.{scale, scaled, tables_of, length_tables}
 
 -- Its check, the room in the output aside: "Q not 1 to 99".
 abbrev pub checks : ℕ → List Check
-checks q = Reply.q_not_made when not (within 1 99 q) ∷ []
+checks q = Refusal.QNotMade when not (within 1 99 q) ∷ []
 
 -- What it decides of a Q.
 unfoldable pub tables_for : ℕ → Decision
@@ -20,7 +20,7 @@ tables_for q = decided (judged (checks q)) (tables_of q)
 
 -- The outcome of `make_tables`: what it answers of a Q and an output, and the output before and after.
 abbrev pub MakesTables : ℕ → List ℕ → Written → List ℕ → Type 0
-MakesTables q before w after = Writes Reply.tables_output (tables_for q) before w after
+MakesTables q before w after = Writes Refusal.TablesOutput (tables_for q) before w after
 
 -- ---- laws
 
@@ -33,11 +33,11 @@ module _ (q : ℕ) where
   unfolding tables_for judged tables_of scale
   tables_from_51 a b = rw (is_within 1 99 q (omega arith) b, lt-leb q 50 a)
 
-  pub no_tables_under_1 : q < 1 → tables_for q ≡ refuse Reply.q_not_made
+  pub no_tables_under_1 : q < 1 → tables_for q ≡ refuse Refusal.QNotMade
   unfolding tables_for judged
   no_tables_under_1 h = rw (is_under 1 99 q h)
 
-  pub no_tables_over_99 : 99 < q → tables_for q ≡ refuse Reply.q_not_made
+  pub no_tables_over_99 : 99 < q → tables_for q ≡ refuse Refusal.QNotMade
   unfolding tables_for judged
   no_tables_over_99 h = rw (is_over 1 99 q h)
 

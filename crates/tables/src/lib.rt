@@ -3,36 +3,37 @@
 
 mod standard;
 
-ghost use Rattle.std.specs.Prelude.{◌/◌, ◌≤◌, ◌<◌, ◌++◌, ◌≡◌, length, drop};
+ghost use Rattle.std.specs.Prelude.{◌/◌, ◌≤◌, ◌<◌, ◌++◌, map, ◌≡◌, length, drop};
 ghost use Rattle.laws.specs.Within.{Between};
-ghost use Rattle.replies.specs.Output.{Writes};
+ghost use Rattle.replies.specs.Output.{Writes, written};
 ghost use Rattle.replies.specs.Output.Decision.{write};
-ghost use Rattle.replies.specs.Reply.{tables_output};
+ghost use Rattle.replies.specs.declared.Refusal.TheVariants.{TablesOutput};
 ghost use Rattle.tables.specs.MakeTables.{MakesTables};
 ghost use Rattle.tables.specs.Quantiser.{made, scaled};
 
-use replies::{Q_NOT_MADE, TABLES_OUTPUT, Written};
+use crate::standard::{K1, K2};
+use replies::Refusal;
 
-// The 128 table bytes of a Q from 1 to 99, luma then chroma, into the front of `out`.
-pub fn make_tables(q: u32, out: &mut [u8]) -> Written
-    ensures { MakesTables q out.old result out.new }
+// The 128 table bytes of a Q from 1 to 99, luma then chroma, into the front of `out`; answers how many they are.
+pub fn make_tables(q: u32, out: &mut [u8]) -> Result<u32, Refusal>
+    ensures { MakesTables q out.old (written result) out.new }
 {
     match q {
         1..=50 => write_scaled(5000 / q, out),
         51..=99 => write_scaled(200 - 2 * q, out),
-        _ => Written::refusal(Q_NOT_MADE),
+        _ => Err(Refusal::QNotMade),
     }
 }
 
-fn write_scaled(scale: u32, out: &mut [u8]) -> Written
+fn write_scaled(scale: u32, out: &mut [u8]) -> Result<u32, Refusal>
     requires { Between 1 5000 scale }
-    ensures { Writes tables_output (write (scaled scale)) out.old result out.new }
+    ensures { Writes TablesOutput (write (scaled scale)) out.old (written result) out.new }
 {
     if out.len() < 128 {
-        return Written::refusal(TABLES_OUTPUT);
+        return Err(Refusal::TablesOutput);
     }
     write_tables(scale as u16, out);
-    Written::success(128)
+    Ok(128)
 }
 
 fn write_tables(scale: u16, out: &mut [u8])
@@ -40,13 +41,19 @@ fn write_tables(scale: u16, out: &mut [u8])
     requires in_bounds { 128 ≤ length out.old }
     ensures { out.new ≡ scaled scale ++ drop 128 out.old }
 {
+    write_table(&K1, scale, &mut out[..64]);
+    write_table(&K2, scale, &mut out[64..128]);
+}
+
+fn write_table(standard: &[u8; 64], scale: u16, out: &mut [u8])
+    requires between { Between 1 5000 scale }
+    requires len { length out.old ≡ 64 }
+    ensures { out.new ≡ map (made scale) standard.now }
+{
     // What an entry v comes to is above 255 where v * scale is above 25,549, and so where v is above `most`.
     let most = 25_549 / scale;
-    let luma = standard::luma();
-    let chroma = standard::chroma();
-    for i in 0..64 {
-        out[i] = made_entry(luma[i], scale, most);
-        out[64 + i] = made_entry(chroma[i], scale, most);
+    for (i, entry) in standard.iter().enumerate() {
+        out[i] = made_entry(*entry, scale, most);
     }
 }
 
@@ -57,8 +64,8 @@ fn made_entry(v: u8, scale: u16, most: u16) -> u8
     ensures { result ≡ made scale v }
 {
     if most < v as u16 {
-        return 255;
+        255
+    } else {
+        ((v as u16 * scale + 50) / 100).max(1) as u8
     }
-    let x = (v as u16 * scale + 50) / 100;
-    if x < 1 { 1 } else { x as u8 }
 }

@@ -1,9 +1,5 @@
 // T.81 tables K.1 and K.2 as they are stored: in zigzag order, in hexadecimal, 8 entries to a line.
-// Each is read through its function alone, and whole, so that a loop over its entries loads no constant anew.
-ghost use Rattle.std.specs.Prelude.{◌≡◌};
-ghost use Rattle.tables.specs.Quantiser.{luma_at, chroma_at, in_zigzag};
-
-const K1: [u8; 64] = *b"\
+pub(crate) const K1: [u8; 64] = *b"\
     \x10\x0b\x0c\x0e\x0c\x0a\x10\x0e\
     \x0d\x0e\x12\x11\x10\x13\x18\x28\
     \x1a\x18\x16\x16\x18\x31\x23\x25\
@@ -13,7 +9,7 @@ const K1: [u8; 64] = *b"\
     \x5f\x62\x67\x68\x67\x3e\x4d\x71\
     \x79\x70\x64\x78\x5c\x65\x67\x63";
 
-const K2: [u8; 64] = *b"\
+pub(crate) const K2: [u8; 64] = *b"\
     \x11\x12\x12\x18\x15\x18\x2f\x1a\
     \x1a\x2f\x63\x42\x38\x42\x63\x63\
     \x63\x63\x63\x63\x63\x63\x63\x63\
@@ -22,15 +18,3 @@ const K2: [u8; 64] = *b"\
     \x63\x63\x63\x63\x63\x63\x63\x63\
     \x63\x63\x63\x63\x63\x63\x63\x63\
     \x63\x63\x63\x63\x63\x63\x63\x63";
-
-pub(crate) fn luma() -> [u8; 64]
-    ensures { result ≡ in_zigzag luma_at }
-{
-    K1
-}
-
-pub(crate) fn chroma() -> [u8; 64]
-    ensures { result ≡ in_zigzag chroma_at }
-{
-    K2
-}

@@ -2,7 +2,7 @@
 #![tactic(auto)]
 
 ghost use Rattle.std.specs.Prelude.{◌≡◌};
-ghost use Rattle.tally.specs.Tally.{CountsNothing, Adds, Closes, TellsAccepted, raised, one_more_if, is_unfinished, gives_up};
+ghost use Rattle.tally.specs.Tally.{CountsNothing, Adds, Closes, TellsAccepted, raised, is_unfinished, gives_up};
 
 use replies::{HELD, WHOLE};
 use state::{Answer, Receiver};
@@ -31,28 +31,26 @@ pub fn none() -> Tally
 
 // With one packet more: its answer, and the receiver before and after it.
 #[tactic(auto, unfolding(crate::specs::Tally::added))]
-pub fn add(tally: Tally, before: Receiver, answer: Answer, after: Receiver) -> Tally
-    ensures { Adds tally before answer after result }
+pub fn add(tally: Tally, before: &Receiver, answer: Answer, after: &Receiver) -> Tally
+    ensures { Adds tally before.now answer after.now result }
 {
-    let earlier = tally.replies;
-    let replies = raise(earlier, answer.reply);
     Tally {
-        read: one_more_if(true, tally.read),
-        replies,
-        given_up: one_more_if(gives_up(before, after), tally.given_up),
+        read: tally.read.wrapping_add(1),
+        replies: raise(tally.replies, answer.reply),
+        given_up: tally
+            .given_up
+            .wrapping_add(u64::from(gives_up(before, after))),
     }
 }
 
 // At the end, with the receiver as the last packet left it: what it holds unfinished is given up.
 #[tactic(auto, unfolding(crate::specs::Tally::closed))]
-pub fn close(tally: Tally, last: Receiver) -> Tally
-    ensures { Closes tally last result }
+pub fn close(tally: Tally, last: &Receiver) -> Tally
+    ensures { Closes tally last.now result }
 {
-    let replies = tally.replies;
     Tally {
-        read: tally.read,
-        replies,
-        given_up: one_more_if(is_unfinished(last), tally.given_up),
+        given_up: tally.given_up.wrapping_add(u64::from(is_unfinished(last))),
+        ..tally
     }
 }
 
@@ -60,47 +58,31 @@ pub fn close(tally: Tally, last: Receiver) -> Tally
 pub fn accepted(tally: Tally) -> u64
     ensures { TellsAccepted tally result }
 {
-    let replies = tally.replies;
-    std::num::wrapping_add_u64(replies[HELD as usize], replies[WHOLE as usize])
+    tally.replies[HELD as usize].wrapping_add(tally.replies[WHOLE as usize])
 }
 
 // One more at the place of a reply, and nothing where there is no such place.
-fn raise(replies: [u64; 32], reply: u32) -> [u64; 32]
+#[tactic(auto, using(crate::specs::Tally::raised_within, crate::specs::Tally::raised_outside))]
+fn raise(mut replies: [u64; 32], reply: u32) -> [u64; 32]
     ensures { result ≡ raised reply replies }
 {
-    let mut raised = replies;
     let place = reply as usize;
-    if place < 32 {
-        raised[place] = one_more_if(true, raised[place]);
+    // `get_mut` says nothing of what the array ends as.
+    if place < replies.len() {
+        replies[place] = replies[place].wrapping_add(1);
     }
-    raised
-}
-
-fn one_more_if(so: bool, count: u64) -> u64
-    ensures { result ≡ one_more_if so count }
-{
-    if so {
-        std::num::wrapping_add_u64(count, 1)
-    } else {
-        count
-    }
+    replies
 }
 
 // Whether a call gave up a picture: the receiver held one unfinished, and afterwards has another time stamp.
-fn gives_up(before: Receiver, after: Receiver) -> bool
-    ensures { result ≡ gives_up before after }
+fn gives_up(before: &Receiver, after: &Receiver) -> bool
+    ensures { result ≡ gives_up before.now after.now }
 {
-    if !is_unfinished(before) {
-        return false;
-    }
-    before.time != after.time
+    is_unfinished(before) && before.time != after.time
 }
 
-fn is_unfinished(receiver: Receiver) -> bool
-    ensures { result ≡ is_unfinished receiver }
+fn is_unfinished(receiver: &Receiver) -> bool
+    ensures { result ≡ is_unfinished receiver.now }
 {
-    if receiver.picture != 1 {
-        return false;
-    }
-    receiver.whole != 1
+    receiver.picture == 1 && receiver.whole != 1
 }

@@ -1,3 +1,2 @@
-pub mod FileName
 pub mod Number
-pub mod Reading
+pub mod FileName

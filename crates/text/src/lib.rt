@@ -6,79 +6,36 @@ ghost use Rattle.laws.specs.Put.{PutsUpTo};
 ghost use Rattle.laws.specs.Within.{Between};
 ghost use Rattle.text.specs.FileName.{Names, ending};
 ghost use Rattle.text.specs.Number.{TellsNumber, said_in};
-ghost use Rattle.text.specs.Number.{digit as Number·digit};
-ghost use Rattle.text.specs.Reading.{read_on, too_large};
-
-// What a text says: a number that 32 bits hold, or no such number.
-#[derive(Clone, Copy)]
-pub enum Said {
-    Number(u32),
-    NoNumber,
-}
-
-// Stands for a text that is no number, and for every number that 32 bits do not hold.
-const TOO_LARGE: u64 = 4294967296;
 
 // The number of a text: decimal digits, or 0x and hexadecimal ones of either case.
-pub fn number(text: &[u8]) -> Said
+pub fn number(text: &[u8]) -> Option<u32>
     ensures { TellsNumber text.now result }
 {
-    let front = slices::part(text, 0, 2);
-    if slices::are_same(front, b"0x") {
-        said_in(16, &text[2..])
-    } else {
-        said_in(10, text)
+    match text {
+        [b'0', b'x', digits @ ..] => said_in(16, digits),
+        _ => said_in(10, text),
     }
 }
 
-// The number that digits of a base are worth.
-fn said_in(base: u64, digits: &[u8]) -> Said
-    requires { Between 1 16 base }
+// The number that digits of a base are worth, where 32 bits hold it.
+fn said_in(base: u32, digits: &[u8]) -> Option<u32>
+    requires { Between 2 36 base }
     ensures { result ≡ said_in base digits.now }
 {
-    if digits.len() == 0 {
-        return Said::NoNumber;
+    if digits.is_empty() {
+        return None;
     }
-    let mut value = 0;
-    for i in 0..digits.len() {
-        value = read_on(base, value, digits[i]);
+    let mut value: u32 = 0;
+    for &character in digits {
+        let digit = char::from(character).to_digit(base)?;
+        value = value.checked_mul(base)?.checked_add(digit)?;
     }
-    if value < TOO_LARGE {
-        Said::Number(value as u32)
-    } else {
-        Said::NoNumber
-    }
-}
-
-// What the digits so far are worth with one more behind them; TOO_LARGE from where they are no number that 32 bits hold.
-fn read_on(base: u64, value: u64, character: u8) -> u64
-    requires between { Between 1 16 base }
-    requires value_le_too_large { value ≤ too_large }
-    ensures { result ≡ read_on base value character }
-{
-    let digit = digit(character);
-    if base <= digit {
-        return TOO_LARGE;
-    }
-    let next = value * base + digit;
-    if next < TOO_LARGE { next } else { TOO_LARGE }
-}
-
-// What a character is worth as a digit, and 16 where it is none.
-fn digit(character: u8) -> u64
-    ensures { result ≡ Number·digit character }
-{
-    match character {
-        b'0'..=b'9' => character as u64 - 48,
-        b'a'..=b'f' => character as u64 - 87,
-        b'A'..=b'F' => character as u64 - 55,
-        _ => 16,
-    }
+    Some(value)
 }
 
 // Puts the name of picture `number`'s file into the front of `out`: the prefix, the number in six digits or more, and `.jpg`. Answers
-// how many bytes that is; 0, and nothing is put, where it does not fit.
-pub fn file_name(prefix: &[u8], number: u64, out: &mut [u8]) -> usize
+// how many bytes that is; where it does not fit, nothing is put.
+pub fn file_name(prefix: &[u8], number: u64, out: &mut [u8]) -> Option<usize>
     ensures { Names prefix.now number out.old result out.new }
 {
     let mut buffer = [0u8; 20];
@@ -87,9 +44,10 @@ pub fn file_name(prefix: &[u8], number: u64, out: &mut [u8]) -> usize
     // Of six zeros, those from place k on are as many as there are digits too few.
     let zeros = slices::part(b"000000", k, 6);
     if out.len() < prefix.len() + zeros.len() + digits.len() + 4 {
-        return 0;
+        None
+    } else {
+        Some(put_name(prefix, zeros, digits, out))
     }
-    put_name(prefix, zeros, digits, out)
 }
 
 // Puts the parts of a name one behind the other into the front of `out`, and answers how many bytes that is.

@@ -1,74 +1,62 @@
 // Cases of the packet reader. Each gives the number of a refusal; or 0 and then, for `packet SOURCE BYTES` what the packet says,
 // for `brought SOURCE BYTES` its 128 table bytes, for `scan SOURCE BYTES` its scan data.
 use crate::hex::read_hex;
-use crate::text::{Number, begins, next_number, write_bytes, write_number};
-use wire::{Packet, Reading};
+use crate::text::{next_number, write_bytes, write_number};
+use wire::Packet;
 
-#[derive(Clone, Copy)]
-enum Shown {
-    Fields,
-    Tables,
-    Scan,
+// None where the line is no such case.
+pub(crate) fn run(rt: &impl Print, line: &[u8]) -> Option<()> {
+    if let Some(rest) = line.strip_prefix(b"packet") {
+        return read(rt, rest, |_, said| write_fields(rt, said));
+    }
+    if let Some(rest) = line.strip_prefix(b"brought") {
+        return read(rt, rest, |packet, said| {
+            write_bytes(rt, &wire::tables(packet, said));
+        });
+    }
+    read(rt, line.strip_prefix(b"scan")?, |packet, said| {
+        write_bytes(rt, wire::scan(packet, said));
+    })
 }
 
-// Whether the line is such a case.
-pub(crate) fn run(rt: &impl Print, line: &[u8]) -> bool {
-    if begins(line, b"packet") {
-        return read(rt, line, 6, Shown::Fields);
-    }
-    if begins(line, b"brought") {
-        return read(rt, line, 7, Shown::Tables);
-    }
-    if begins(line, b"scan") {
-        return read(rt, line, 4, Shown::Scan);
-    }
-    false
-}
-
-fn read(rt: &impl Print, line: &[u8], at: usize, shown: Shown) -> bool {
-    let Number::Of(source, behind) = next_number(line, at) else {
-        return false;
-    };
+// Shows of the packet what the case asks for, where the packet is read.
+fn read<Show: Fn(&[u8], Packet)>(rt: &impl Print, line: &[u8], show: Show) -> Option<()>
+    requires { Show.IsAlwaysCallable show }
+{
+    let (source, rest) = next_number(line)?;
     let mut buffer = [0u8; 65536];
-    let bytes = read_hex(line, behind, &mut buffer);
-    let n = bytes.length;
-    if !bytes.whole {
-        return false;
-    }
-    show(rt, source, &buffer[0..n], shown);
-    true
-}
-
-fn show(rt: &impl Print, source: u32, packet: &[u8], shown: Shown) {
+    let packet = read_hex(rest, &mut buffer)?;
     match wire::read(source, packet) {
-        Reading::Refused(number) => write_number(rt, number as u64),
-        Reading::Said(said) => {
+        Err(refusal) => write_number(rt, refusal.number()),
+        Ok(said) => {
             write_number(rt, 0);
-            match shown {
-                Shown::Fields => write_fields(rt, said),
-                Shown::Tables => write_bytes(rt, &wire::tables(packet, said)),
-                Shown::Scan => write_bytes(rt, wire::scan(packet, said)),
-            }
+            show(packet, said);
         }
     }
+    Some(())
 }
 
 fn write_fields(rt: &impl Print, said: Packet) {
-    write_number(rt, said.marker as u64);
-    write_number(rt, said.time as u64);
-    write_number(rt, said.offset as u64);
-    write_number(rt, said.header.kind as u64);
-    write_number(rt, said.header.q as u64);
-    write_number(rt, said.header.width as u64);
-    write_number(rt, said.header.height as u64);
-    write_number(rt, said.header.interval as u64);
-    if said.tables.length == 0 {
-        write_number(rt, 0);
-        write_number(rt, 0);
-    } else {
-        write_number(rt, 1);
-        write_number(rt, said.tables.at as u64);
+    let header = said.header;
+    for field in [
+        said.marker,
+        said.time,
+        said.offset,
+        header.kind,
+        header.q,
+        header.width,
+        header.height,
+        header.interval,
+    ] {
+        write_number(rt, field);
     }
-    write_number(rt, said.scan.at as u64);
-    write_number(rt, said.scan.length as u64);
+    let tables = said.tables;
+    let (brought, at) = if tables.length == 0 {
+        (0, 0)
+    } else {
+        (1, tables.at)
+    };
+    for place in [brought, at, said.scan.at, said.scan.length] {
+        write_number(rt, place);
+    }
 }

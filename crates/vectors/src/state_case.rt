@@ -3,239 +3,169 @@
 ghost use Rattle.std.specs.Prelude.{◌≤◌};
 
 use crate::made_up;
-use crate::made_up::MadeUp;
-use crate::text::{Place, begins, next_numbers, reads_as, write_number};
+use crate::text::{next_numbers, part, reads_as, write_number};
 use fragments::Fragment;
 use kept::Kept;
-use state::{Inspected, Receiver};
+use state::Receiver;
 
-// Whether the line is such a case.
-pub(crate) fn run(rt: &impl Print, line: &[u8]) -> bool {
+// None where the line is no such case.
+pub(crate) fn run(rt: &impl Print, line: &[u8]) -> Option<()> {
     open(rt, line)
-        || formed(rt, line)
-        || placed(rt, line)
-        || insert(rt, line)
-        || found(rt, line)
-        || keep(rt, line)
+        .or_else(|| formed(rt, line))
+        .or_else(|| placed(rt, line))
+        .or_else(|| insert(rt, line))
+        .or_else(|| found(rt, line))
+        .or_else(|| keep(rt, line))
 }
 
-fn open(rt: &impl Print, line: &[u8]) -> bool {
+fn open(rt: &impl Print, line: &[u8]) -> Option<()> {
     let mut n = [0u32; 2];
-    if !reads_as(line, b"open", &mut n) {
-        return false;
-    }
-    write_opened(rt, n)
-}
-
-fn write_opened(rt: &impl Print, n: [u32; 2]) -> bool {
-    let opened = state::open(n[0], n[1]);
-    write_number(rt, opened.answer.reply as u64);
-    write_number(rt, opened.answer.held as u64);
-    let receiver = opened.receiver;
-    write_receiver(rt, receiver);
-    true
+    reads_as(line, b"open", &mut n)?;
+    let [source, room] = n;
+    let opened = state::open(source, room);
+    write_number(rt, opened.answer.reply);
+    write_number(rt, opened.answer.held);
+    write_receiver(rt, &opened.receiver);
+    Some(())
 }
 
 // The 12 numbers, and how many of the others are not 0.
-pub(crate) fn write_receiver(rt: &impl Print, r: Receiver) {
-    write_number(rt, r.source as u64);
-    write_number(rt, r.room as u64);
-    write_number(rt, r.picture as u64);
-    write_number(rt, r.time as u64);
-    write_header(rt, r);
-    write_number(rt, r.end as u64);
-    write_number(rt, r.whole as u64);
-    write_number(rt, r.fragment_count as u64);
-    let fragments = r.fragments;
-    let tables = r.tables;
-    let kept = r.kept;
-    write_number(
-        rt,
-        used_numbers(fragments) + used_bytes(tables) + used_in(kept),
-    );
+pub(crate) fn write_receiver(rt: &impl Print, r: &Receiver) {
+    for n in [
+        r.source,
+        r.room,
+        r.picture,
+        r.time,
+        r.kind,
+        r.q,
+        r.width,
+        r.height,
+        r.interval,
+        r.end,
+        r.whole,
+        r.fragment_count,
+    ] {
+        write_number(rt, n);
+    }
+    let used = used_numbers(r.fragments) + used_bytes(r.tables) + used_in(&r.kept);
+    write_number(rt, used);
 }
 
-fn write_header(rt: &impl Print, r: Receiver) {
-    write_number(rt, r.kind as u64);
-    write_number(rt, r.q as u64);
-    write_number(rt, r.width as u64);
-    write_number(rt, r.height as u64);
-    write_number(rt, r.interval as u64);
-}
-
-fn formed(rt: &impl Print, line: &[u8]) -> bool {
-    if !begins(line, b"formed") {
-        return false;
-    }
-    let given = made_up::read(line, 6);
-    if !given.complete {
-        return false;
-    }
-    let receiver = given.receiver;
-    match state::inspect(receiver) {
-        Inspected::Holds(_, _) => write_number(rt, 1),
-        Inspected::NotWellFormed => write_number(rt, 0),
-    }
-    true
+fn formed(rt: &impl Print, line: &[u8]) -> Option<()> {
+    let receiver = made_up::read(line.strip_prefix(b"formed")?)?;
+    write_number(rt, u32::from(state::inspect(&receiver).is_ok()));
+    Some(())
 }
 
 // The numbers behind a word, as many as there is room for, and then a state; none where the line is another case.
-pub(crate) fn given(line: &[u8], word: &[u8], numbers: &mut [u32]) -> MadeUp {
-    if !begins(line, word) {
-        return made_up::none();
-    }
-    let Place::At(behind) = next_numbers(line, word.len(), numbers) else {
-        return made_up::none();
-    };
-    made_up::read(line, behind)
+pub(crate) fn given(line: &[u8], word: &[u8], numbers: &mut [u32]) -> Option<Receiver> {
+    made_up::read(next_numbers(line.strip_prefix(word)?, numbers)?)
 }
 
-fn placed(rt: &impl Print, line: &[u8]) -> bool {
+fn placed(rt: &impl Print, line: &[u8]) -> Option<()> {
     let mut n = [0u32; 3];
-    let given = given(line, b"placed", &mut n);
-    if !given.complete {
-        return false;
-    }
-    let receiver = given.receiver;
-    write_place(rt, receiver, n)
-}
-
-fn write_place(rt: &impl Print, r: Receiver, n: [u32; 3]) -> bool {
+    let receiver = given(line, b"placed", &mut n)?;
+    let [offset, length, marker] = n;
     let f = Fragment {
-        offset: n[0],
-        length: n[1],
-        marker: n[2],
+        offset,
+        length,
+        marker,
     };
-    let fragments = r.fragments;
-    let p = fragments::place(fragments, r.fragment_count, f);
-    write_number(rt, p.at as u64);
-    write_flag(rt, p.shares);
-    write_flag(rt, p.same);
-    let s = fragments::survey(fragments, r.fragment_count);
-    write_number(rt, s.bytes);
-    true
+    write_place(rt, receiver.fragments, receiver.fragment_count, f);
+    Some(())
 }
 
-fn insert(rt: &impl Print, line: &[u8]) -> bool {
+// By value: the prover knows how long an array is that is a parameter, and not one that is a field.
+fn write_place(rt: &impl Print, fragments: [Fragment; 64], count: u32, f: Fragment) {
+    let p = fragments::place(&fragments, count, f);
+    write_number(rt, p.at);
+    write_number(rt, u8::from(p.shares));
+    write_number(rt, u8::from(p.same));
+    write_number(rt, fragments::survey(&fragments, count).bytes);
+}
+
+fn insert(rt: &impl Print, line: &[u8]) -> Option<()> {
     let mut n = [0u32; 6];
-    let given = given(line, b"insert", &mut n);
-    if !given.complete {
-        return false;
-    }
-    let receiver = given.receiver;
-    write_inserted(rt, receiver, n)
-}
-
-fn write_inserted(rt: &impl Print, r: Receiver, n: [u32; 6]) -> bool {
+    let receiver = given(line, b"insert", &mut n)?;
+    let [at, offset, length, marker, from, count] = n;
     let f = Fragment {
-        offset: n[1],
-        length: n[2],
-        marker: n[3],
+        offset,
+        length,
+        marker,
     };
-    let fragments = r.fragments;
-    let after = fragments::insert(fragments, r.fragment_count, n[0] as usize, f);
-    write_fragments(rt, after, n[4], n[5])
+    let after = inserted(receiver.fragments, receiver.fragment_count, at as usize, f);
+    write_fragments(rt, &after, from, count)
 }
 
-// So many fragments from a place on; whether there are so many places.
+// By value: the prover knows how long an array is that is a parameter, and not one that is a field.
+fn inserted(mut fragments: [Fragment; 64], count: u32, at: usize, f: Fragment) -> [Fragment; 64] {
+    fragments::insert(&mut fragments, count, at, f);
+    fragments
+}
+
+// So many fragments from a place on; none where there are not so many places.
 pub(crate) fn write_fragments(
     rt: &impl Print,
-    fragments: [Fragment; 64],
+    fragments: &[Fragment],
     from: u32,
     count: u32,
-) -> bool {
-    let from = from as usize;
-    let to = from + count as usize;
-    if 64 < to {
-        return false;
+) -> Option<()> {
+    for f in part(fragments, from, count)? {
+        write_number(rt, f.offset);
+        write_number(rt, f.length);
+        write_number(rt, f.marker);
     }
-    for i in from..to {
-        write_fragment(rt, fragments[i]);
-    }
-    true
+    Some(())
 }
 
-fn write_fragment(rt: &impl Print, f: Fragment) {
-    write_number(rt, f.offset as u64);
-    write_number(rt, f.length as u64);
-    write_number(rt, f.marker as u64);
+fn found(rt: &impl Print, line: &[u8]) -> Option<()> {
+    let mut q = [0u32; 1];
+    let receiver = given(line, b"found", &mut q)?;
+    write_found(rt, &receiver.kept, q[0]);
+    Some(())
 }
 
-fn found(rt: &impl Print, line: &[u8]) -> bool {
-    let mut n = [0u32; 1];
-    let given = given(line, b"found", &mut n);
-    if !given.complete {
-        return false;
-    }
-    let receiver = given.receiver;
-    let kept = receiver.kept;
-    write_found(rt, kept, n[0])
-}
-
-fn keep(rt: &impl Print, line: &[u8]) -> bool {
+fn keep(rt: &impl Print, line: &[u8]) -> Option<()> {
     let mut n = [0u32; 3];
-    let given = given(line, b"keep", &mut n);
-    if !given.complete {
-        return false;
-    }
-    let receiver = given.receiver;
-    let kept = receiver.kept;
-    let byte = (n[1] % 256) as u8;
-    let after = kept::keep(kept, n[0], [byte; 128]);
-    write_found(rt, after, n[2])
+    let receiver = given(line, b"keep", &mut n)?;
+    let [q, byte, asked] = n;
+    let byte = (byte % 256) as u8;
+    let after = kept::keep(&receiver.kept, q, [byte; 128]);
+    write_found(rt, &after, asked);
+    Some(())
 }
 
-fn write_found(rt: &impl Print, kept: Kept, q: u32) -> bool {
-    write_flag(rt, kept::has(kept, q));
+fn write_found(rt: &impl Print, kept: &Kept, q: u32) {
+    write_number(rt, u8::from(kept::has(kept, q)));
     let tables = kept::find(kept, q);
     write_number(rt, used_bytes(tables));
-    write_number(rt, tables[0] as u64);
-    write_number(rt, tables[127] as u64);
-    true
+    write_number(rt, tables[0]);
+    write_number(rt, tables[127]);
 }
 
-fn write_flag(rt: &impl Print, b: bool) {
-    write_number(rt, if b { 1 } else { 0 });
-}
-
-// How many are not 0.
+// How many are not 0. By value, as above, and so are the fragments.
 fn used_bytes(bytes: [u8; 128]) -> u64
     ensures { result ≤ 128 }
 {
-    let mut n: u64 = 0;
-    for i in 0..128 {
-        if bytes[i] != 0 {
-            n += 1;
-        }
+    let mut n = 0;
+    for byte in bytes {
+        n += u64::from(byte != 0);
     }
     n
 }
 
-fn used_in(kept: Kept) -> u64
+fn used_in(kept: &Kept) -> u64
     ensures { result ≤ 129 }
 {
-    let tables = kept.tables;
-    one_if_used(kept.q) + used_bytes(tables)
+    u64::from(kept.q != 0) + used_bytes(kept.tables)
 }
 
 fn used_numbers(fragments: [Fragment; 64]) -> u64
     ensures { result ≤ 192 }
 {
-    let mut n: u64 = 0;
-    for i in 0..64 {
-        n += used_in_one(fragments[i]);
+    let mut n = 0;
+    for f in fragments {
+        n += u64::from(f.offset != 0) + u64::from(f.length != 0) + u64::from(f.marker != 0);
     }
     n
-}
-
-fn used_in_one(f: Fragment) -> u64
-    ensures { result ≤ 3 }
-{
-    one_if_used(f.offset) + one_if_used(f.length) + one_if_used(f.marker)
-}
-
-fn one_if_used(n: u32) -> u64
-    ensures { result ≤ 1 }
-{
-    if n == 0 { 0 } else { 1 }
 }

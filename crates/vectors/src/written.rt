@@ -1,23 +1,19 @@
 // What a call answers that writes into an output, and what it leaves there.
-use crate::text::{write_bytes, write_number};
-use replies::Written;
+use crate::text::{part, write_bytes, write_number};
+use replies::{Refusal, Written};
 
-// The reply, the length, and `count` bytes from place `from` of the output; whether the output has them.
+// The reply, the length, and `count` bytes from place `from` of the output; none where the output has not so many.
 pub(crate) fn write_part(
     rt: &impl Print,
-    w: Written,
+    outcome: Result<u32, Refusal>,
     out: &[u8],
-    from: usize,
-    count: usize,
-) -> bool {
-    if out.len() < from {
-        return false;
-    }
-    if out.len() - from < count {
-        return false;
-    }
-    write_number(rt, w.reply as u64);
-    write_number(rt, w.length as u64);
-    write_bytes(rt, &out[from..from + count]);
-    true
+    from: u32,
+    count: u32,
+) -> Option<()> {
+    let bytes = part(out, from, count)?;
+    let written = Written::from(outcome);
+    write_number(rt, written.reply);
+    write_number(rt, written.length);
+    write_bytes(rt, bytes);
+    Some(())
 }

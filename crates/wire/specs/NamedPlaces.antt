@@ -1,13 +1,12 @@
 -- The reader's answer depends on a packet's length and on the places that it goes by, and on nothing else in the packet. Assumes nothing.
-use Rattle.std.specs.Prelude.{ℕ, ◌+◌, ◌-◌, ◌*◌, ◌%◌, ◌≤◌, ◌<◌, Bool, true, false, cond, ◌≡◌, refl, ltb, eqb, length}
+use Rattle.std.specs.Prelude.{ℕ, ◌+◌, ◌-◌, ◌*◌, ◌%◌, ◌≤◌, ◌<◌, Bool, true, false, cond, ◌≡◌, refl, ltb, eqb, length, Err}
 use mathlib.Core.List.{List, [], ◌∷◌, ◌++◌}
 use Rattle.std.proofs.Math.Path.{sym, ap}
 use Rattle.std.proofs.Common.{◌∙◌, arith, eqb-true, ltb-true, ltb-false, lt-ltb, length-take, length-drop}
 use Rattle.std.proofs.Math.ListN.{take, drop}
 use Rattle.laws.specs.Truth.{split}
 use Rattle.replies.specs.Checks.{Check, judged, ◌when◌}
-use Rattle.replies.specs.Reply
-use Rattle.replies.specs.declared.Judged.TheVariants.{Refused}
+use Rattle.replies.specs.declared.Refusal.{Refusal}
 use Rattle.wire.specs.Field.{byte, field}
 use Rattle.wire.specs.Main.{main_end}
 use Rattle.wire.specs.Reading.{jpeg_checks, checks, said, answered, reading}
@@ -139,21 +138,21 @@ payload_empty : (p : List ℕ) → length p ≤ headers_end p → length (payloa
 unfolding payload
 payload_empty p h = simp (length-take, length-drop) (omega arith)
 
-refused_at : (n : ℕ) (s t : Bool) (left : List Check) → judged (n when s ∷ n when t ∷ n when true ∷ left) ≡ Refused n
+refused_at : (n : Refusal) (s t : Bool) (left : List Check) → judged (n when s ∷ n when t ∷ n when true ∷ left) ≡ Err n
 unfolding judged
 refused_at n true t left = refl
 refused_at n false true left = refl
 refused_at n false false left = refl
 
-refused_alike : (front left left' : List Check) {n : ℕ} (s s' : Packet) → judged left ≡ Refused n → judged left' ≡ Refused n → answered (judged (front ++ left)) s ≡ answered (judged (front ++ left')) s'
+refused_alike : (front left left' : List Check) {n : Refusal} (s s' : Packet) → judged left ≡ Err n → judged left' ≡ Err n → answered (judged (front ++ left)) s ≡ answered (judged (front ++ left')) s'
 unfolding judged
 refused_alike [] left left' s s' e f = rw (e, f)
 refused_alike ((m when true) ∷ front) left left' s s' e f = refl
 refused_alike ((m when false) ∷ front) left left' s s' e f = refused_alike front left left' s s' e f
 
 module _ (source : ℕ) where
-  refused_short : (p : List ℕ) → length p ≤ headers_end p → judged (drop 5 (checks source p)) ≡ Refused Reply.too_short
-  refused_short p none = rw (lt-ltb (length (payload p)) main_end (omega (arith, payload_empty p none))) (refused_at Reply.too_short (ltb (length p) (headers_end p)) (padding_broken p) _)
+  refused_short : (p : List ℕ) → length p ≤ headers_end p → judged (drop 5 (checks source p)) ≡ Err Refusal.TooShort
+  refused_short p none = rw (lt-ltb (length (payload p)) main_end (omega (arith, payload_empty p none))) (refused_at Refusal.TooShort (ltb (length p) (headers_end p)) (padding_broken p) _)
 
   nothing_behind : {p p' : List ℕ} → AlikeHeaders p p' → length p ≤ headers_end p → reading source p ≡ reading source p'
   unfolding reading

@@ -4,7 +4,7 @@ use Rattle.std.proofs.Common.{arith, ltb-false}
 use Rattle.std.proofs.lemmas.Bool.{eqb-false}
 use Rattle.laws.specs.Truth.{or_none, are_same}
 use Rattle.replies.specs.Checks.{judged, all_hold}
-use Rattle.replies.specs.declared.Judged.TheVariants.{Passed}
+use Rattle.replies.specs.Checks.{Passed}
 use Rattle.wire.specs.Kind.{restarts_of, is_not_carried}
 use Rattle.wire.specs.Main.{main, main_end}
 use Rattle.wire.specs.Reading.{rtp_checks, jpeg_checks}

@@ -1,5 +1,5 @@
 -- What is known of a packet that is read. Assumes nothing.
-use Rattle.std.specs.Prelude.{ℕ, ◌+◌, ◌^◌, ◌≤◌, ◌<◌, Bool, true, false, List, ◌⊎◌, ◌≡◌, refl, eqb, length, drop}
+use Rattle.std.specs.Prelude.{ℕ, ◌+◌, ◌^◌, ◌≤◌, ◌<◌, Bool, true, false, List, ◌⊎◌, ◌≡◌, refl, eqb, length, drop, Ok, Err}
 use Rattle.std.proofs.Common.{append-nil, arith, length-take, length-drop, take_all}
 use Rattle.std.proofs.Math.Logic.{inl, inr, ⊎_elim}
 use Rattle.std.proofs.Math.Path.{sym}
@@ -8,9 +8,9 @@ use Rattle.laws.specs.Each.{Each, each_take, each_drop, each_weaken, each_both}
 use Rattle.laws.specs.Any.{any_none}
 use Rattle.laws.specs.Truth.{and_true}
 use Rattle.laws.specs.Within.{Between}
-use Rattle.replies.specs.Checks.{judged, both_passed, numbered, refused_by}
-use Rattle.replies.specs.declared.Judged.{Judged}
-use Rattle.replies.specs.declared.Judged.TheVariants.{Passed, Refused}
+use Rattle.replies.specs.Checks.{Judged, Passed, judged, both_passed, numbered, refused_by}
+use Rattle.replies.specs.Refusal.{number}
+use Rattle.replies.specs.declared.Refusal.{Refusal}
 use Rattle.wire.specs.Field.{Bytes, byte_small, field_small}
 use Rattle.wire.specs.Lawful.{Lawful}
 use Rattle.wire.specs.Main.{main, main_end}
@@ -21,7 +21,6 @@ use Rattle.wire.specs.Rtp.{longest, payload, payload_length, length_payload, pay
 use Rattle.wire.specs.TableSource.{table_source, is_in_band, is_always_brought}
 use Rattle.wire.specs.Tables.{has_table_header, tables_at, tables_length, scan_at, tables, is_zero, Come, none_or_come, always_come}
 use Rattle.wire.specs.declared.Packet.{Packet}
-use Rattle.wire.specs.declared.Reading.TheVariants as Answer
 
 -- Tables that a packet brings: it is the first of its picture, they lie inside the packet, and none of the 128 is 0.
 pub record Brought (p : List ℕ) (s : Packet) : Type 0 where
@@ -49,23 +48,23 @@ pub record Passes (source : ℕ) (p : List ℕ) (s : Packet) : Type 0 where
   pub jpeg : JpegPassed (payload p)
   pub says : s ≡ said p
 
-passed : (j : Judged) {s t : Packet} → answered j t ≡ Answer.Said s → (j ≡ Passed) × (s ≡ t)
-passed Passed e = (refl, cc)
-passed (Refused n) e = absurd (let z : ◌≡◌ {A = ℕ} 0 1 = cc in omega arith)
+passed : (j : Judged) {s t : Packet} → answered j t ≡ Ok s → (j ≡ Passed) × (s ≡ t)
+passed (Ok tt) e = (refl, cc)
+passed (Err r) e = absurd (let z : ◌≡◌ {A = ℕ} 0 1 = cc in omega arith)
 
-pub read_passes : (source : ℕ) (p : List ℕ) (s : Packet) → reading source p ≡ Answer.Said s → Passes source p s
+pub read_passes : (source : ℕ) (p : List ℕ) (s : Packet) → reading source p ≡ Ok s → Passes source p s
 unfolding reading
 read_passes source p s e =
     let t = passed (judged (checks source p)) e in
     let both = both_passed (rtp_checks source p) (jpeg_checks (payload p)) t.0 in
     record { rtp = rtp_passed source p both.0; jpeg = jpeg_passed (payload p) both.1; says = t.1 }
 
-refused : (j : Judged) (t : Packet) {n : ℕ} → answered j t ≡ Answer.Refused n → j ≡ Refused n
-refused Passed t e = absurd (let z : ◌≡◌ {A = ℕ} 0 1 = cc in omega arith)
-refused (Refused m) t e = cc
+refused : (j : Judged) (t : Packet) {r : Refusal} → answered j t ≡ Err r → j ≡ Err r
+refused (Ok x) t e = absurd (let z : ◌≡◌ {A = ℕ} 0 1 = cc in omega arith)
+refused (Err m) t e = cc
 
 -- a test that the number of each check passes is passed by the number of a refusal
-pub read_refused : (source : ℕ) (p : List ℕ) (test : ℕ → Bool) {n : ℕ} → numbered test (checks source p) ≡ true → reading source p ≡ Answer.Refused n → test n ≡ true
+pub read_refused : (source : ℕ) (p : List ℕ) (test : ℕ → Bool) {r : Refusal} → numbered test (checks source p) ≡ true → reading source p ≡ Err r → test (number r) ≡ true
 unfolding reading
 read_refused source p test a e = refused_by test (checks source p) a (refused (judged (checks source p)) (said p) e)
 
@@ -165,7 +164,7 @@ module _ {source : ℕ} (p : List ℕ) (rtp : RtpPassed source p) (jpeg : JpegPa
     }
 
 -- The laws for whoever reads packets: what is known of one, its scan data, and the tables that it brings.
-module _ (source : ℕ) (p : List ℕ) (s : Packet) (read : reading source p ≡ Answer.Said s) where
+module _ (source : ℕ) (p : List ℕ) (s : Packet) (read : reading source p ≡ Ok s) where
   pub read_packet : Bytes p → Readable p s
   read_packet bytes = let t = read_passes source p s read in rw t.says (readable p t.rtp t.jpeg bytes)
 

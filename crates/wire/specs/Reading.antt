@@ -1,11 +1,9 @@
--- What the reader answers: the checks of document 01 from 11 to 21 in their order, and what a packet says that passes them all. Assumes nothing.
-use Rattle.std.specs.Prelude.{ℕ, ◌+◌, ◌-◌, not, ◌&&◌, ◌||◌, List, [], ◌∷◌, ◌++◌, ◌≡◌, ltb, eqb, length, take, drop, replicate}
+-- What the reader answers: its checks, from 11 to 21, in their order, and what a packet says that passes them all. Assumes nothing.
+use Rattle.std.specs.Prelude.{ℕ, ◌+◌, ◌-◌, not, ◌&&◌, ◌||◌, List, [], ◌∷◌, ◌++◌, ◌≡◌, ltb, eqb, length, take, drop, replicate, Result, Ok, Err}
 use Rattle.std.proofs.Common.{arith, length-append, length-take}
 use Rattle.std.proofs.lemmas.List.{length-replicate}
-use Rattle.replies.specs.Checks.{Check, judged, ◌when◌}
-use Rattle.replies.specs.Reply
-use Rattle.replies.specs.declared.Judged.{Judged}
-use Rattle.replies.specs.declared.Judged.TheVariants.{Passed, Refused}
+use Rattle.replies.specs.Checks.{Check, Judged, judged, ◌when◌}
+use Rattle.replies.specs.declared.Refusal.{Refusal}
 use Rattle.wire.specs.Rtp.{longest, fixed, fixed_end, headers_end, padding_broken, payload}
 use Rattle.wire.specs.Kind.{restarts_of, is_not_carried}
 use Rattle.wire.specs.TableSource.{table_source, is_reserved}
@@ -15,44 +13,42 @@ use Rattle.wire.specs.Tables.{tables_length, tables_at, scan_at, table_rule_brok
 use Rattle.wire.specs.declared.Header.{Header}
 use Rattle.wire.specs.declared.Packet.{Packet}
 use Rattle.wire.specs.declared.Part.{Part}
-use Rattle.wire.specs.declared.Reading.{Reading}
-use Rattle.wire.specs.declared.Reading.TheVariants as Answer
 
 -- The checks of the RTP headers, for a source and a packet: 11, 10, 12, 13, 14, 10 (CSRC, extension), 10 (padding).
 abbrev pub rtp_checks : ℕ → List ℕ → List Check
 rtp_checks source p =
-    Reply.too_long when ltb longest (length p)
-    ∷ Reply.too_short when ltb (length p) fixed_end
-    ∷ Reply.other_version when not (eqb (fixed p).version 2)
-    ∷ Reply.other_payload when not (eqb (fixed p).payload_type 26)
-    ∷ Reply.other_source when not (eqb (fixed p).source source)
-    ∷ Reply.too_short when ltb (length p) (headers_end p)
-    ∷ Reply.too_short when padding_broken p
+    Refusal.TooLong when ltb longest (length p)
+    ∷ Refusal.TooShort when ltb (length p) fixed_end
+    ∷ Refusal.OtherVersion when not (eqb (fixed p).version 2)
+    ∷ Refusal.OtherPayload when not (eqb (fixed p).payload_type 26)
+    ∷ Refusal.OtherSource when not (eqb (fixed p).source source)
+    ∷ Refusal.TooShort when ltb (length p) (headers_end p)
+    ∷ Refusal.TooShort when padding_broken p
     ∷ []
 
 -- The checks of the JPEG headers, in what is left between the RTP headers and the padding: 10 (main header), 15, 16, 17, 18.
 abbrev pub main_checks : List ℕ → List Check
 main_checks b =
-    Reply.too_short when ltb (length b) main_end
-    ∷ Reply.other_type when is_not_carried (restarts_of (main b).kind)
-    ∷ Reply.other_type_specific when not (eqb (main b).specific 0)
-    ∷ Reply.q_reserved when is_reserved (table_source (main b).q)
-    ∷ Reply.side_zero when (eqb (main b).width 0 || eqb (main b).height 0)
+    Refusal.TooShort when ltb (length b) main_end
+    ∷ Refusal.OtherType when is_not_carried (restarts_of (main b).kind)
+    ∷ Refusal.OtherTypeSpecific when not (eqb (main b).specific 0)
+    ∷ Refusal.QReserved when is_reserved (table_source (main b).q)
+    ∷ Refusal.SideZero when (eqb (main b).width 0 || eqb (main b).height 0)
     ∷ []
 
 -- 10 (restart header), 19
 abbrev pub restart_checks : List ℕ → List Check
 restart_checks b =
-    Reply.too_short when ltb (length b) (restart_end b)
-    ∷ Reply.interval_zero when (has_restart b && eqb (interval b) 0)
+    Refusal.TooShort when ltb (length b) (restart_end b)
+    ∷ Refusal.IntervalZero when (has_restart b && eqb (interval b) 0)
     ∷ []
 
 -- 10 (table header or its length), 20, 21
 abbrev pub table_checks : List ℕ → List Check
 table_checks b =
-    Reply.too_short when ltb (length b) (scan_at b)
-    ∷ Reply.table_rule when table_rule_broken b
-    ∷ Reply.no_scan when eqb (length b) (scan_at b)
+    Refusal.TooShort when ltb (length b) (scan_at b)
+    ∷ Refusal.TableRule when table_rule_broken b
+    ∷ Refusal.NoScan when eqb (length b) (scan_at b)
     ∷ []
 
 abbrev pub jpeg_checks : List ℕ → List Check
@@ -82,9 +78,12 @@ said p = record {
   scan = record { at = headers_end p + scan_at (payload p); length = length (payload p) - scan_at (payload p) };
 }
 
+abbrev pub Reading : Type 0
+Reading = Result Packet Refusal
+
 abbrev pub answered : Judged → Packet → Reading
-answered Passed s = Answer.Said s
-answered (Refused n) s = Answer.Refused n
+answered (Ok passed) s = Ok s
+answered (Err r) s = Err r
 
 unfoldable pub reading : ℕ → List ℕ → Reading
 reading source p = answered (judged (checks source p)) (said p)

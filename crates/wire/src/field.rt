@@ -1,38 +1,22 @@
-// Numbers in a slice of bytes, most significant byte first. Past the end of the slice every byte is 0. The bounds on a place keep
-// the sums below from wrapping; a packet's places are far under them.
-ghost use Rattle.std.specs.Prelude.{◌<◌, ◌≡◌};
+// Numbers in a slice of bytes, most significant byte first. Past the end of the slice every byte is 0.
+ghost use Rattle.std.specs.Prelude.{◌<◌, ◌≤◌, ◌≡◌};
 ghost use Rattle.wire.specs.Field.{byte, field};
 
 pub(crate) fn byte_at(s: &[u8], at: usize) -> u8
     ensures { result ≡ byte s.now at }
 {
-    if at < s.len() { s[at] } else { 0 }
+    s.get(at).copied().unwrap_or(0)
 }
 
-pub(crate) fn u16_at(s: &[u8], at: usize) -> u16
-    requires { at < 4294967296 }
-    ensures { result ≡ field s.now at 2 }
+// The number in N bytes from a place on. The bound on a place keeps the sums from wrapping; a packet's places are far under it.
+#[tactic(auto, unfolding(crate::specs::Field::field))]
+pub(crate) fn number_at<const N: usize>(s: &[u8], at: usize) -> u32
+    requires { (N ≤ 4) × (at < 4294967296) }
+    ensures { result ≡ field s.now at N }
 {
-    let high = byte_at(s, at) as u16;
-    let low = byte_at(s, at + 1) as u16;
-    high * 256 + low
-}
-
-pub(crate) fn u24_at(s: &[u8], at: usize) -> u32
-    requires { at < 65536 }
-    ensures { result ≡ field s.now at 3 }
-{
-    let high = byte_at(s, at) as u32;
-    let middle = byte_at(s, at + 1) as u32;
-    let low = byte_at(s, at + 2) as u32;
-    high * 65536 + middle * 256 + low
-}
-
-pub(crate) fn u32_at(s: &[u8], at: usize) -> u32
-    requires { at < 65536 }
-    ensures { result ≡ field s.now at 4 }
-{
-    let high = u16_at(s, at) as u32;
-    let low = u16_at(s, at + 2) as u32;
-    high * 65536 + low
+    let mut number = 0;
+    for i in 0..N {
+        number = number * 256 + u32::from(byte_at(s, at + i));
+    }
+    number
 }

@@ -1,55 +1,60 @@
 // The JPEG headers at the front of a payload (RFC 2435).
 ghost use Rattle.std.specs.Prelude.{◌≡◌};
 ghost use Rattle.replies.specs.Checks.{judged};
+ghost use Rattle.wire.specs.Kind.{is_not_carried, restarts_of};
 ghost use Rattle.wire.specs.Main.{main};
 ghost use Rattle.wire.specs.Reading.{main_checks, jpeg_checks, header_of};
+ghost use Rattle.wire.specs.TableSource.{is_reserved, table_source};
 
 use crate::field::byte_at;
 use crate::restart::{interval, judge_restart};
 use crate::table_header::judge_tables;
-use crate::{Header, restarts_of, table_source};
-use replies::{Judged, OTHER_TYPE, OTHER_TYPE_SPECIFIC, Q_RESERVED, SIDE_ZERO, TOO_SHORT};
+use crate::{Header, Restarts, TableSource, restarts_of, table_source};
+use replies::Refusal;
 
-pub(crate) fn judge(payload: &[u8]) -> Judged
+pub(crate) fn judge(payload: &[u8]) -> Result<(), Refusal>
     ensures { result ≡ judged (jpeg_checks payload.now) }
 {
-    let main = judge_main(payload);
-    if let Judged::Refused(_) = main {
-        return main;
-    }
-    let restart = judge_restart(payload);
-    if let Judged::Refused(_) = restart {
-        return restart;
-    }
+    judge_main(payload)?;
+    judge_restart(payload)?;
     judge_tables(payload)
 }
 
-fn judge_main(payload: &[u8]) -> Judged
+fn judge_main(payload: &[u8]) -> Result<(), Refusal>
     ensures { result ≡ judged (main_checks payload.now) }
 {
     if payload.len() < 8 {
-        return Judged::Refused(TOO_SHORT);
+        return Err(Refusal::TooShort);
     }
     // what is asked of the fields first, so that the checks stand in their order below
-    let other_type = restarts_of(kind_of(payload)).is_not_carried();
+    let other_type = has_other_type(payload);
     let type_specific = byte_at(payload, 0) != 0;
-    let reserved_q = table_source(q_of(payload)).is_reserved();
+    let reserved_q = has_reserved_q(payload);
     if other_type {
-        return Judged::Refused(OTHER_TYPE);
+        return Err(Refusal::OtherType);
     }
     if type_specific {
-        return Judged::Refused(OTHER_TYPE_SPECIFIC);
+        return Err(Refusal::OtherTypeSpecific);
     }
     if reserved_q {
-        return Judged::Refused(Q_RESERVED);
+        return Err(Refusal::QReserved);
     }
-    if byte_at(payload, 6) == 0 {
-        return Judged::Refused(SIDE_ZERO);
+    if byte_at(payload, 6) == 0 || byte_at(payload, 7) == 0 {
+        return Err(Refusal::SideZero);
     }
-    if byte_at(payload, 7) == 0 {
-        return Judged::Refused(SIDE_ZERO);
-    }
-    Judged::Passed
+    Ok(())
+}
+
+fn has_other_type(payload: &[u8]) -> bool
+    ensures { result ≡ is_not_carried (restarts_of (main payload.now).kind) }
+{
+    restarts_of(kind_of(payload)) == Restarts::NotCarried
+}
+
+fn has_reserved_q(payload: &[u8]) -> bool
+    ensures { result ≡ is_reserved (table_source (main payload.now).q) }
+{
+    table_source(q_of(payload)) == TableSource::Reserved
 }
 
 pub(crate) fn kind_of(payload: &[u8]) -> u32

@@ -8,21 +8,20 @@ mod rtp;
 mod table_header;
 
 ghost use Rattle.std.specs.Prelude.{◌≤◌, ◌≡◌, length};
-ghost use Rattle.laws.specs.Within.{within};
-ghost use Rattle.wire.specs.Kind.{TellsRestarts, are_present, is_not_carried};
+ghost use Rattle.wire.specs.Kind.{TellsRestarts};
 ghost use Rattle.wire.specs.Lawful.{TellsLawful, has_interval};
 ghost use Rattle.wire.specs.Reading.{Reads, GivesScan, GivesTables, said, filled_up};
 ghost use Rattle.wire.specs.Rtp.{Rest};
 ghost use Rattle.wire.specs.Tables.{TellsFull, scan_at};
-ghost use Rattle.wire.specs.TableSource.{TellsSource, is_in_band, is_always_brought, is_reserved};
+ghost use Rattle.wire.specs.TableSource.{TellsSource};
 
-use crate::field::{byte_at, u24_at, u32_at};
-use crate::table_header::{has_zero, tables_at, tables_length};
-use replies::Judged;
+use crate::field::{byte_at, number_at};
+use crate::table_header::{tables_at, tables_length};
+use replies::Refusal;
 
 // What the headers of every packet of a picture have in common: the type, Q, the sides in units of 8 pixels, and the restart
 // interval, 0 for types 0 and 1.
-#[derive(Clone, Copy)]
+#[derive(Clone, Copy, Debug, PartialEq, Eq)]
 pub struct Header {
     pub kind: u32,
     pub q: u32,
@@ -32,14 +31,14 @@ pub struct Header {
 }
 
 // A part of a packet: its place, and how many bytes it has. Tables that do not come have none.
-#[derive(Clone, Copy)]
+#[derive(Clone, Copy, Debug, PartialEq, Eq)]
 pub struct Part {
     pub at: usize,
     pub length: usize,
 }
 
 // What a packet says, and where its tables and its scan data lie in it.
-#[derive(Clone, Copy)]
+#[derive(Clone, Copy, Debug, PartialEq, Eq)]
 pub struct Packet {
     pub marker: u32,
     pub time: u32,
@@ -49,15 +48,8 @@ pub struct Packet {
     pub scan: Part,
 }
 
-// A refusal with its number, or what the packet says.
-#[derive(Clone, Copy)]
-pub enum Reading {
-    Refused(u32),
-    Said(Packet),
-}
-
 // Whether the pictures of a type have restart intervals, or are not carried at all.
-#[derive(Clone, Copy)]
+#[derive(Clone, Copy, Debug, PartialEq, Eq)]
 pub enum Restarts {
     Absent,
     Present,
@@ -65,7 +57,7 @@ pub enum Restarts {
 }
 
 // Where the tables of a Q come from, or that it has no meaning.
-#[derive(Clone, Copy)]
+#[derive(Clone, Copy, Debug, PartialEq, Eq)]
 pub enum TableSource {
     Made,
     KeptOrBrought,
@@ -74,18 +66,14 @@ pub enum TableSource {
 }
 
 // What a packet says to a receiver of that source, or why it is refused.
-pub fn read(source: u32, packet: &[u8]) -> Reading
+pub fn read(source: u32, packet: &[u8]) -> Result<Packet, Refusal>
     ensures { Reads source packet.now result }
 {
-    if let Judged::Refused(number) = rtp::judge(source, packet) {
-        return Reading::Refused(number);
-    }
+    rtp::judge(source, packet)?;
     let start = rtp::headers_end(packet);
-    let end = packet.len() - rtp::padding(packet);
-    if let Judged::Refused(number) = jpeg::judge(&packet[start..end]) {
-        return Reading::Refused(number);
-    }
-    Reading::Said(says(packet, start, &packet[start..end]))
+    let payload = &packet[start..packet.len() - rtp::padding(packet)];
+    jpeg::judge(payload)?;
+    Ok(says(packet, start, payload))
 }
 
 // The values of a packet that has passed its checks, from the packet and from its payload, which begins at `start`.
@@ -98,9 +86,9 @@ fn says(packet: &[u8], start: usize, payload: &[u8]) -> Packet
     let tables_length = tables_length(payload) as usize;
     let scan_at = tables_at + tables_length;
     Packet {
-        marker: (byte_at(packet, 1) / 128) as u32,
-        time: u32_at(packet, 4),
-        offset: u24_at(payload, 1),
+        marker: u32::from(byte_at(packet, 1) / 128),
+        time: number_at::<4>(packet, 4),
+        offset: number_at::<3>(payload, 1),
         header: jpeg::header(payload),
         tables: Part {
             at: start + tables_at,
@@ -133,47 +121,27 @@ pub fn tables(packet: &[u8], said: Packet) -> [u8; 128]
 fn filled_up(bytes: &[u8]) -> [u8; 128]
     ensures { result ≡ filled_up bytes.now }
 {
-    let mut filled = [0u8; 128];
-    let n = if bytes.len() < 128 { bytes.len() } else { 128 };
-    for i in 0..n {
-        filled[i] = bytes[i];
-    }
+    let front = slices::part(bytes, 0, 128);
+    let mut filled = [0; 128];
+    slices::put(front, 0, &mut filled);
     filled
 }
 
 // Whether the reader can give these header fields.
+#[tactic(auto, unfolding(crate::specs::Lawful::is_lawful, laws::specs::Within::within))]
 pub fn is_lawful(header: Header) -> bool
     ensures { TellsLawful header result }
 {
-    if table_source(header.q).is_reserved() {
-        return false;
-    }
-    if !is_within(1, 255, header.width) {
-        return false;
-    }
-    if !is_within(1, 255, header.height) {
-        return false;
-    }
-    restarts_of(header.kind).have(header.interval)
-}
-
-fn is_within(low: u32, high: u32, n: u32) -> bool
-    ensures { result ≡ within low high n }
-{
-    if n < low {
-        return false;
-    }
-    n <= high
+    let has_meaning = table_source(header.q) != TableSource::Reserved;
+    let has_sides = (1..=255).contains(&header.width) && (1..=255).contains(&header.height);
+    has_meaning && has_sides && restarts_of(header.kind).have(header.interval)
 }
 
 // Whether these are tables for a picture to bring: 128 bytes, none of them 0.
 pub fn are_full(tables: &[u8]) -> bool
     ensures { TellsFull tables.now result }
 {
-    if tables.len() != 128 {
-        return false;
-    }
-    !has_zero(tables)
+    tables.len() == 128 && !tables.contains(&0)
 }
 
 pub fn restarts_of(kind: u32) -> Restarts
@@ -199,68 +167,14 @@ pub fn table_source(q: u32) -> TableSource
 
 impl Restarts {
     // Whether this is an interval of such pictures.
+    #[tactic(auto, unfolding(laws::specs::Within::within))]
     fn have(self, interval: u32) -> bool
         ensures { result ≡ has_interval self interval }
     {
         match self {
             Restarts::Absent => interval == 0,
-            Restarts::Present => is_within(1, 65535, interval),
+            Restarts::Present => (1..=65535).contains(&interval),
             Restarts::NotCarried => false,
-        }
-    }
-
-    pub(crate) fn are_present(self) -> bool
-        ensures { result ≡ are_present self }
-    {
-        match self {
-            Restarts::Absent => false,
-            Restarts::Present => true,
-            Restarts::NotCarried => false,
-        }
-    }
-
-    pub(crate) fn is_not_carried(self) -> bool
-        ensures { result ≡ is_not_carried self }
-    {
-        match self {
-            Restarts::Absent => false,
-            Restarts::Present => false,
-            Restarts::NotCarried => true,
-        }
-    }
-}
-
-impl TableSource {
-    pub(crate) fn is_in_band(self) -> bool
-        ensures { result ≡ is_in_band self }
-    {
-        match self {
-            TableSource::Made => false,
-            TableSource::KeptOrBrought => true,
-            TableSource::AlwaysBrought => true,
-            TableSource::Reserved => false,
-        }
-    }
-
-    pub(crate) fn is_always_brought(self) -> bool
-        ensures { result ≡ is_always_brought self }
-    {
-        match self {
-            TableSource::Made => false,
-            TableSource::KeptOrBrought => false,
-            TableSource::AlwaysBrought => true,
-            TableSource::Reserved => false,
-        }
-    }
-
-    pub(crate) fn is_reserved(self) -> bool
-        ensures { result ≡ is_reserved self }
-    {
-        match self {
-            TableSource::Made => false,
-            TableSource::KeptOrBrought => false,
-            TableSource::AlwaysBrought => false,
-            TableSource::Reserved => true,
         }
     }
 }

@@ -4,37 +4,34 @@ ghost use Rattle.replies.specs.Checks.{judged};
 ghost use Rattle.wire.specs.Reading.{restart_checks};
 ghost use Rattle.wire.specs.Restart as Restart;
 
-use crate::field::u16_at;
+use crate::field::number_at;
 use crate::jpeg::kind_of;
-use crate::restarts_of;
-use replies::{INTERVAL_ZERO, Judged, TOO_SHORT};
+use crate::{Restarts, restarts_of};
+use replies::Refusal;
 
-pub(crate) fn judge_restart(payload: &[u8]) -> Judged
+pub(crate) fn judge_restart(payload: &[u8]) -> Result<(), Refusal>
     ensures { result ≡ judged (restart_checks payload.now) }
 {
     if payload.len() < restart_end(payload) {
-        return Judged::Refused(TOO_SHORT);
+        return Err(Refusal::TooShort);
     }
-    if !has_restart(payload) {
-        return Judged::Passed;
+    if has_restart(payload) && interval(payload) == 0 {
+        return Err(Refusal::IntervalZero);
     }
-    if interval(payload) == 0 {
-        return Judged::Refused(INTERVAL_ZERO);
-    }
-    Judged::Passed
+    Ok(())
 }
 
 fn has_restart(payload: &[u8]) -> bool
     ensures { result ≡ Restart.has_restart payload.now }
 {
-    restarts_of(kind_of(payload)).are_present()
+    restarts_of(kind_of(payload)) == Restarts::Present
 }
 
 pub(crate) fn interval(payload: &[u8]) -> u32
     ensures { result ≡ Restart.interval payload.now }
 {
     if has_restart(payload) {
-        u16_at(payload, 8) as u32
+        number_at::<2>(payload, 8)
     } else {
         0
     }

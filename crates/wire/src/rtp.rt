@@ -4,35 +4,35 @@ ghost use Rattle.replies.specs.Checks.{judged};
 ghost use Rattle.wire.specs.Reading.{rtp_checks};
 ghost use Rattle.wire.specs.Rtp.{headers_end, dropped, padding_broken};
 
-use crate::field::{byte_at, u16_at, u32_at};
-use replies::{Judged, OTHER_PAYLOAD, OTHER_SOURCE, OTHER_VERSION, TOO_LONG, TOO_SHORT};
+use crate::field::{byte_at, number_at};
+use replies::Refusal;
 
-pub(crate) fn judge(source: u32, packet: &[u8]) -> Judged
+pub(crate) fn judge(source: u32, packet: &[u8]) -> Result<(), Refusal>
     ensures { result ≡ judged (rtp_checks source packet.now) }
 {
     if 2048 < packet.len() {
-        return Judged::Refused(TOO_LONG);
+        return Err(Refusal::TooLong);
     }
     if packet.len() < 12 {
-        return Judged::Refused(TOO_SHORT);
+        return Err(Refusal::TooShort);
     }
     if byte_at(packet, 0) / 64 != 2 {
-        return Judged::Refused(OTHER_VERSION);
+        return Err(Refusal::OtherVersion);
     }
     if byte_at(packet, 1) % 128 != 26 {
-        return Judged::Refused(OTHER_PAYLOAD);
+        return Err(Refusal::OtherPayload);
     }
-    if u32_at(packet, 8) != source {
-        return Judged::Refused(OTHER_SOURCE);
+    if number_at::<4>(packet, 8) != source {
+        return Err(Refusal::OtherSource);
     }
     let end = headers_end(packet);
     if packet.len() < end {
-        return Judged::Refused(TOO_SHORT);
+        return Err(Refusal::TooShort);
     }
     if padding_broken(packet, end) {
-        return Judged::Refused(TOO_SHORT);
+        return Err(Refusal::TooShort);
     }
-    Judged::Passed
+    Ok(())
 }
 
 // Where the CSRC entries and the extension end.
@@ -42,7 +42,7 @@ pub(crate) fn headers_end(packet: &[u8]) -> usize
     let first = byte_at(packet, 0);
     let csrc_end = 12 + 4 * (first % 16) as usize;
     if first / 16 % 2 == 1 {
-        csrc_end + 4 + 4 * u16_at(packet, csrc_end + 2) as usize
+        csrc_end + 4 + 4 * number_at::<2>(packet, csrc_end + 2) as usize
     } else {
         csrc_end
     }
@@ -69,8 +69,5 @@ fn padding_broken(packet: &[u8], end: usize) -> bool
         return false;
     }
     let n = padding(packet);
-    if n < 1 {
-        return true;
-    }
-    packet.len() - end < n
+    n < 1 || packet.len() - end < n
 }

@@ -1,31 +1,32 @@
 // The table header and the tables behind it, in the first packet of a picture (RFC 2435 section 3.1.8).
 ghost use Rattle.std.specs.Prelude.{◌≡◌, length};
-ghost use Rattle.laws.specs.Any.{any};
 ghost use Rattle.replies.specs.Checks.{judged};
 ghost use Rattle.wire.specs.Reading.{table_checks};
+ghost use Rattle.wire.specs.Main.{main};
+ghost use Rattle.wire.specs.TableSource.{is_in_band, table_source};
 ghost use Rattle.wire.specs.Tables as Tables;
 
-use crate::field::{byte_at, u16_at, u24_at};
+use crate::field::{byte_at, number_at};
 use crate::jpeg::q_of;
 use crate::restart::restart_end;
-use crate::table_source;
-use replies::{Judged, NO_SCAN, TABLE_RULE, TOO_SHORT};
+use crate::{TableSource, table_source};
+use replies::Refusal;
 
-pub(crate) fn judge_tables(payload: &[u8]) -> Judged
+pub(crate) fn judge_tables(payload: &[u8]) -> Result<(), Refusal>
     ensures { result ≡ judged (table_checks payload.now) }
 {
     let at = tables_at(payload);
     let end = at + tables_length(payload) as usize;
     if payload.len() < end {
-        return Judged::Refused(TOO_SHORT);
+        return Err(Refusal::TooShort);
     }
     if rule_broken(payload, &payload[at..end]) {
-        return Judged::Refused(TABLE_RULE);
+        return Err(Refusal::TableRule);
     }
     if payload.len() == end {
-        return Judged::Refused(NO_SCAN);
+        return Err(Refusal::NoScan);
     }
-    Judged::Passed
+    Ok(())
 }
 
 fn rule_broken(payload: &[u8], tables: &[u8]) -> bool
@@ -39,47 +40,40 @@ fn rule_broken(payload: &[u8], tables: &[u8]) -> bool
     if byte_at(payload, restart_end(payload) + 1) % 4 != 0 {
         return true;
     }
-    let length = tables_length(payload);
-    match length {
+    match tables.len() {
         0 => always_brought(payload),
-        128 => has_zero(tables),
+        128 => tables.contains(&0),
         _ => true,
     }
-}
-
-pub(crate) fn has_zero(bytes: &[u8]) -> bool
-    requires { length bytes.now ≡ 128 }
-    ensures { result ≡ any Tables.is_zero bytes.now }
-{
-    let mut found = false;
-    for i in 0..128 {
-        if bytes[i] == 0 {
-            found = true;
-        }
-    }
-    found
 }
 
 fn has_table_header(payload: &[u8]) -> bool
     ensures { result ≡ Tables.has_table_header payload.now }
 {
-    if u24_at(payload, 1) != 0 {
-        return false;
-    }
-    table_source(q_of(payload)).is_in_band()
+    number_at::<3>(payload, 1) == 0 && is_in_band(payload)
 }
 
 fn always_brought(payload: &[u8]) -> bool
     ensures { result ≡ Tables.always_brought payload.now }
 {
-    table_source(q_of(payload)).is_always_brought()
+    table_source(q_of(payload)) == TableSource::AlwaysBrought
 }
 
-pub(crate) fn tables_length(payload: &[u8]) -> u16
+fn is_in_band(payload: &[u8]) -> bool
+    ensures { result ≡ is_in_band (table_source (main payload.now).q) }
+{
+    matches!(
+        table_source(q_of(payload)),
+        TableSource::KeptOrBrought | TableSource::AlwaysBrought
+    )
+}
+
+// How many bytes of tables the header says.
+pub(crate) fn tables_length(payload: &[u8]) -> u32
     ensures { result ≡ Tables.tables_length payload.now }
 {
     if has_table_header(payload) {
-        u16_at(payload, restart_end(payload) + 2)
+        number_at::<2>(payload, restart_end(payload) + 2)
     } else {
         0
     }

@@ -1,5 +1,5 @@
 -- `builder::write_file` meets its contract: the room in the output, the head, and behind it the body. Assumes nothing.
-use Rattle.std.proofs.Common.{ℕ, rules, ◌+◌, ◌≤◌, List, ◌≡◌, ◌∙◌, arith, length, length-append}
+use Rattle.std.proofs.Common.{ℕ, rules, refl, ◌+◌, ◌≤◌, List, ◌≡◌, ◌∙◌, arith, length, length-append}
 use Rattle.head.specs.Head.{head, head_length, length_head, head_small}
 use Rattle.head.specs.declared.Frame.{Frame}
 use Rattle.laws.specs.Put.{puts_more, puts_front}
@@ -20,16 +20,16 @@ overflow_add-length c = omega (arith, fits c.args.frame c.args.scan.now c.requir
 
 pub returns-then-out-length : goal.returns-then-out-length
 returns-then-out-length c =
-    writes_short (c.length-head.result + c.length.result) (long c.args.frame c.args.tables c.args.scan.now (search rules) c.length-head.ensures c.length.ensures) (omega arith) c.refusal.ensures
+    writes_short (c.length-head.result + c.length.result) (long c.args.frame c.args.tables.now c.args.scan.now (search rules) c.length-head.ensures c.length.ensures) (omega arith) refl
 
-pub overflow_cast-length : goal.overflow_cast-length
-overflow_cast-length c = omega (arith, fits c.args.frame c.args.scan.now c.requires c.length-head.ensures c.length.ensures)
+pub overflow_cast-result : goal.overflow_cast-result
+overflow_cast-result c = omega (arith, fits c.args.frame c.args.scan.now c.requires c.length-head.ensures c.length.ensures)
 
 pub returns : goal.returns
 unfolding file
 returns c =
-    let tables : length c.args.tables ≡ 128 = search rules in
-    let tall = length_head c.args.frame c.args.tables tables in
-    let n = long c.args.frame c.args.tables c.args.scan.now tables c.length-head.ensures c.length.ensures in
+    let tables : length c.args.tables.now ≡ 128 = search rules in
+    let tall = length_head c.args.frame c.args.tables.now tables in
+    let n = long c.args.frame c.args.tables.now c.args.scan.now tables c.length-head.ensures c.length.ensures in
     let whole = puts_more (puts_fits (omega (arith, c.length-head.ensures, tall)) c.put.ensures) c.put-2.ensures (omega arith) (omega (arith, c.length-head.ensures, tall)) in
-    writes_all (c.length-head.result + c.length.result) n (omega arith) c.success.ensures (puts_front whole n)
+    writes_all (c.length-head.result + c.length.result) n (omega arith) refl (puts_front whole n)

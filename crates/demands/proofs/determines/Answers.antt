@@ -1,4 +1,4 @@
-use Rattle.demands.proofs.Determined.{refusal, success, make_tables, read, scan, tables, restarts_of, table_source, is_lawful, are_full, part, put, are_same, packet, no_fragments, survey, place, insert, none, has, find, keep, well_kept, is_blank, opens, inspect, whole_flag, receive, receive_in_place, head_length, put_head, build, record_length, take_record, no_counts, add_count, close_counts, accepted, number, file_name}
+use Rattle.demands.proofs.Determined.{refusal, success, make_tables, read, scan, tables, restarts_of, table_source, is_lawful, are_full, part, put, are_same, packet, no_fragments, survey, place, insert, none, has, find, keep, well_kept, is_blank, opens, inspect, whole_flag, receive, receive_in_place, head_length, put_head, build, record_length, take_record, take_next, no_counts, add_count, close_counts, accepted, number, file_name}
 use Rattle.demands.proofs.determines.Goals as goal
 
 pub returns-clause-refusal : goal.returns-clause-refusal
@@ -102,6 +102,9 @@ returns-clause-record_length c = record_length
 
 pub returns-clause-take_record : goal.returns-clause-take_record
 returns-clause-take_record c = take_record
+
+pub returns-clause-take_next : goal.returns-clause-take_next
+returns-clause-take_next c = take_next
 
 pub returns-clause-no_counts : goal.returns-clause-no_counts
 returns-clause-no_counts c = no_counts

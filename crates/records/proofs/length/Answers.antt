@@ -1,12 +1,12 @@
 -- `records::length` meets its contract: by whether the length field is all there. Assumes nothing.
-use Rattle.std.proofs.Common.{lt-ltb}
+use Rattle.std.proofs.Common.{arith, lt-ltb}
 use Rattle.wire.specs.Field.{field_2}
 use Rattle.records.specs.Framing.{record_length, length_there}
 use Rattle.records.proofs.length.Goals as goal
 
-pub returns-then-bytes-lt2 : goal.returns-then-bytes-lt2
+pub returns-in_default-clause-told : goal.returns-in_default-clause-told
 unfolding record_length
-returns-then-bytes-lt2 c = rw (lt-ltb _ _ c.if-bytes-lt2.true)
+returns-in_default-clause-told c = rw (lt-ltb _ _ c.in_default.len_below)
 
-pub returns : goal.returns
-returns c = rw (length_there _ c.if-bytes-lt2.false, field_2 _ _) c.length_with.ensures
+pub returns-in-len2-up-clause-told : goal.returns-in-len2-up-clause-told
+returns-in-len2-up-clause-told c = rw (length_there _ c.in-len2-up.len_at_least, field_2 _ _) (omega (arith, c.from.ensures, c.from_be_bytes.ensures))

@@ -1,18 +1,18 @@
 -- `sender::packet` meets its contract: the checks, the room in the output, and the packet. Assumes nothing.
-use Rattle.std.proofs.Common.{◌≡◌, ℕ, ◌+◌, ◌≤◌, List, length, sym, arith}
+use Rattle.std.proofs.Common.{◌≡◌, ℕ, ◌+◌, ◌≤◌, List, length, refl, sym, arith}
+use Rattle.std.proofs.lemmas.Result.{err_from_is_err_and}
 use Rattle.fragments.specs.Fragments.{fragment_at}
 use Rattle.fragments.specs.Tiles.{Inside}
 use Rattle.fragments.specs.declared.Fragment.{Fragment}
 use Rattle.laws.specs.Put.{puts_front}
 use Rattle.replies.specs.Output.{writes_refused, writes_short, writes_all}
 use Rattle.replies.specs.Output.Decision.{write}
-use Rattle.replies.specs.Checks.{judged}
-use Rattle.replies.specs.declared.Judged.TheVariants.{Passed}
+use Rattle.replies.specs.Checks.{Passed, judged}
 use Rattle.wire.specs.Rtp.{fixed_end}
 use Rattle.sender.specs.Fit.{few_tables}
 use Rattle.sender.specs.Cuts.{cuts}
-use Rattle.sender.specs.Packet.{packet, jpeg_headers, length_headers, length_packet}
-use Rattle.sender.specs.Picture.{Picture, picture}
+use Rattle.sender.specs.Packet.{packet, jpeg_headers, length_packet}
+use Rattle.sender.specs.Picture.{Picture}
 use Rattle.sender.specs.Sending.{Accepted, checks, sending, accepted}
 use Rattle.sender.specs.Sent.{cut_inside, packet_fits}
 use Rattle.sender.specs.declared.Stamp.{Stamp}
@@ -31,64 +31,55 @@ module _ (p : Picture) (size : ℕ) (s : Stamp) (k : ℕ) (passed : Passed ≡ j
   unfolding sending
   decides = rw (← passed)
 
-  fits : length (asked p size s k) ≤ 1472
-  fits = omega (arith, packet_fits ok.fit k ok.index s, ok.fit.packet_size)
-
   -- and f is the cut asked for
   module _ (f : Fragment) (cut : f ≡ fragment_at (cuts size p) k) where
     inside : Inside 0 (length p.scan) f
     inside = rw cut (cut_inside ok.fit k ok.index)
 
-    long : (n : ℕ) → n ≡ fixed_end + length (jpeg_headers p.header p.tables f.offset) → length (asked p size s k) ≡ n + f.length
-    long n e = rw (← cut) (omega (arith, length_packet s p k f inside.to, length_headers p.header p.tables f.offset))
+    -- the length of the packet, n of it headers
+    long : (n : ℕ) → n ≡ fixed_end + length (jpeg_headers p.header p.tables f.offset) → (length (asked p size s k) ≡ n + f.length) × (n + f.length ≤ 1472)
+    long n e =
+        let all : length (asked p size s k) ≡ n + f.length = rw (← cut) (omega (arith, length_packet s p k f inside.to)) in
+        (all, omega (arith, all, packet_fits ok.fit k ok.index s, ok.fit.packet_size))
 
-pub returns-in-Refused : goal.returns-in-Refused
+pub returns-in_err-judge : goal.returns-in_err-judge
 unfolding sending
-returns-in-Refused c = rw (← c.in-Refused.ensures) (writes_refused c.refusal.ensures)
+returns-in_err-judge c =
+    let e = err_from_is_err_and c.from_residual.result c.from_residual.ensures.1 in
+    rw (e.1, e.2, ← c.in_err-judge.ensures) (writes_refused refl)
 
 pub cut_at-cut-requires : goal.cut_at-cut-requires
-cut_at-cut-requires c = ok _ _ c.args.stamp _ c.in_default.ensures
-
-pub headers_length-requires : goal.headers_length-requires
-headers_length-requires c = few_tables (ok _ _ c.args.stamp _ c.in_default.ensures).fit
+cut_at-cut-requires c = ok _ _ c.args.stamp _ c.in_ok-judge.ensures
 
 pub overflow_add-length : goal.overflow_add-length
 overflow_add-length c =
-    let p = picture c.args.header c.args.tables.now c.args.scan.now in
-    omega (arith, long p c.args.size c.args.stamp c.args.k c.in_default.ensures c.cut_at-cut.result c.cut_at-cut.ensures c.headers_length.result c.headers_length.ensures, fits p c.args.size c.args.stamp c.args.k c.in_default.ensures)
+    let all = long _ _ c.args.stamp _ c.in_ok-judge.ensures _ c.cut_at-cut.ensures _ c.headers_length.ensures in
+    omega (arith, all.1)
 
 pub returns-then-out-length : goal.returns-then-out-length
 returns-then-out-length c =
-    let p = picture c.args.header c.args.tables.now c.args.scan.now in
-    let all = long p c.args.size c.args.stamp c.args.k c.in_default.ensures c.cut_at-cut.result c.cut_at-cut.ensures c.headers_length.result c.headers_length.ensures in
-    rw (decides p c.args.size c.args.stamp c.args.k c.in_default.ensures) (writes_short _ all c.if-out-length.true c.refusal-then-out-length.ensures)
+    let all = long _ _ c.args.stamp _ c.in_ok-judge.ensures _ c.cut_at-cut.ensures _ c.headers_length.ensures in
+    rw (decides _ _ c.args.stamp _ c.in_ok-judge.ensures) (writes_short _ all.0 c.if-out-length.true refl)
 
 pub put_packet-requires-clause-lawful : goal.put_packet-requires-clause-lawful
 put_packet-requires-clause-lawful c =
-    let a = ok _ _ c.args.stamp _ c.in_default.ensures in
+    let a = ok _ _ c.args.stamp _ c.in_ok-judge.ensures in
     (a.fit.header, few_tables a.fit, omega (arith, a.index, a.few))
 
 pub put_packet-requires-clause-marker_bound : goal.put_packet-requires-clause-marker_bound
 put_packet-requires-clause-marker_bound c =
-    let a = ok _ _ c.args.stamp _ c.in_default.ensures in
-    let i = inside _ _ c.args.stamp _ c.in_default.ensures c.cut_at-cut.result c.cut_at-cut.ensures in
+    let a = ok _ _ c.args.stamp _ c.in_ok-judge.ensures in
+    let i = inside _ _ c.args.stamp _ c.in_ok-judge.ensures _ c.cut_at-cut.ensures in
     (i.marker, omega (arith, i.some, i.to, a.fit.scan), i.to)
 
-pub put_packet-requires-clause-cut_in_bounds : goal.put_packet-requires-clause-cut_in_bounds
-put_packet-requires-clause-cut_in_bounds c =
-    let p = picture c.args.header c.args.tables.now c.args.scan.now in
-    let all = long p c.args.size c.args.stamp c.args.k c.in_default.ensures c.cut_at-cut.result c.cut_at-cut.ensures c.headers_length.result c.headers_length.ensures in
-    rw c.cut_at-cut.ensures (omega (arith, all))
-
-pub overflow_cast-length-2 : goal.overflow_cast-length-2
-overflow_cast-length-2 c =
-    let p = picture c.args.header c.args.tables.now c.args.scan.now in
-    omega (arith, long p c.args.size c.args.stamp c.args.k c.in_default.ensures c.cut_at-cut.result c.cut_at-cut.ensures c.headers_length.result c.headers_length.ensures, fits p c.args.size c.args.stamp c.args.k c.in_default.ensures)
+pub overflow_cast-result : goal.overflow_cast-result
+overflow_cast-result c =
+    let all = long _ _ c.args.stamp _ c.in_ok-judge.ensures _ c.cut_at-cut.ensures _ c.headers_length.ensures in
+    omega (arith, all.1)
 
 pub returns : goal.returns
 returns c =
-    let p = picture c.args.header c.args.tables.now c.args.scan.now in
-    let all = long p c.args.size c.args.stamp c.args.k c.in_default.ensures c.cut_at-cut.result c.cut_at-cut.ensures c.headers_length.result c.headers_length.ensures in
+    let all = long _ _ c.args.stamp _ c.in_ok-judge.ensures _ c.cut_at-cut.ensures _ c.headers_length.ensures in
     let put = rw c.cut_at-cut.ensures at c.put_packet.ensures in
-    rw (decides p c.args.size c.args.stamp c.args.k c.in_default.ensures)
-    (writes_all _ all c.if-out-length.false c.success.ensures (puts_front {bytes = asked p c.args.size c.args.stamp c.args.k} put all))
+    rw (decides _ _ c.args.stamp _ c.in_ok-judge.ensures)
+    (writes_all _ all.0 c.if-out-length.false refl (puts_front put all.0))

@@ -15,10 +15,6 @@ pub returns-then-most-v : goal.returns-then-most-v
 unfolding made
 returns-then-most-v c = omega (arith, large c.args.v c.args.scale c.args.most c.requires.0 c.requires.1 c.if-most-v.true)
 
-pub returns-then-x-lt1 : goal.returns-then-x-lt1
+pub returns-else-most-v : goal.returns-else-most-v
 unfolding made
-returns-then-x-lt1 c = omega (arith, small c.args.v c.args.scale c.args.most c.requires.0 c.requires.1 c.if-most-v.false)
-
-pub returns-else-x-lt1 : goal.returns-else-x-lt1
-unfolding made
-returns-else-x-lt1 c = omega (arith, small c.args.v c.args.scale c.args.most c.requires.0 c.requires.1 c.if-most-v.false)
+returns-else-most-v c = omega (arith, small c.args.v c.args.scale c.args.most c.requires.0 c.requires.1 c.if-most-v.false, c.max.ensures)

@@ -1,25 +1,18 @@
--- `tables::write_tables` meets its contract: after i turns each half of the output has its first i entries made. Assumes nothing.
-use Rattle.std.proofs.Common.{ℕ, ◌<◌, List, map, ◌≡◌, sym, ◌∙◌, arith, get_or}
-use Rattle.laws.specs.Lists.{map_at}
-use Rattle.tables.specs.Quantiser.{luma_at, chroma_at, in_zigzag, made, scaled, length_in_zigzag, length_made}
-use Rattle.tables.proofs.Halves.{filled_more, filled_all}
+-- `tables::write_tables` meets its contract: the checker computes the definition's 128 entries and compares them with those stored.
+-- Assumes nothing.
+use Rattle.std.proofs.Common.{ap, arith, List, ℕ, ◌++◌, map, length-take-le, drop-drop, sym}
+use Rattle.tables.specs.Quantiser.{luma_at, chroma_at, zigzag, in_zigzag, made, scaled}
 use Rattle.tables.proofs.write_tables.Goals as goal
 
--- an entry made of one that was read at i is entry i of those made
-made_at : (s i : ℕ) (entry : ℕ → ℕ → ℕ) {l : List ℕ} {v : ℕ} → i < 64 → l ≡ in_zigzag entry → v ≡ made s (get_or l i 0) → v ≡ get_or (map (made s) (in_zigzag entry)) i 0
-made_at s i entry h e g = g ∙ rw e (sym (map_at (made s) (in_zigzag entry) i (omega (arith, length_in_zigzag entry))))
+pub slice_bounds-write_table-end-2 : goal.slice_bounds-write_table-end-2
+slice_bounds-write_table-end-2 c = sym (length-take-le 64 c.args.out.now (omega arith))
 
-pub loop-i-preserved : goal.loop-i-preserved
-loop-i-preserved c =
-    let i = c.loop-i.i in
-    let s = c.args.scale in
-    let e = made_at s i luma_at (omega arith) c.luma-luma.ensures c.made_entry.ensures in
-    let e' = made_at s i chroma_at (omega arith) c.chroma-chroma.ensures c.made_entry-in-loop-i.ensures in
-    rw (e, e') (filled_more _ _ _ (length_made s luma_at) (length_made s chroma_at) (omega arith) i c.loop-i.out (omega arith) c.loop-i.invariant)
+pub write_table-requires-clause-len : goal.write_table-requires-clause-len
+write_table-requires-clause-len c = length-take-le 64 c.args.out.now (omega arith)
 
 pub returns : goal.returns
-unfolding scaled
+unfolding scaled luma_at chroma_at zigzag in_zigzag
 returns c =
     let s = c.args.scale in
-    let e : c.loop-i.i ≡ 64 = omega arith in
-    filled_all _ _ _ (length_made s luma_at) (length_made s chroma_at) (omega arith) c.loop-i.out (rw e at c.loop-i.invariant)
+    rw (c.write_table.ensures, c.write_table-2.ensures)
+    (ap (λ (l : List ℕ). (map (made s) (in_zigzag luma_at) ++ map (made s) (in_zigzag chroma_at)) ++ l) (drop-drop 64 64 c.args.out.now))

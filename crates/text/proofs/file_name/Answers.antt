@@ -17,8 +17,8 @@ returns-then-out-prefix c =
     let l = long c.args.prefix.now c.args.number c.decimal-k.result c.part-zeros.result.now (take c.decimal-k.result c.decimal-k.new.out) f c.decimal-k.ensures.digits (omega arith) in
     not_named c.decimal-k.ensures.len (omega (arith, l))
 
-pub returns : goal.returns
-returns c =
+pub returns-else-out-prefix : goal.returns-else-out-prefix
+returns-else-out-prefix c =
     let f = filled c.decimal-k.result c.part-zeros.result.now c.part-zeros.ensures in
     let l = long c.args.prefix.now c.args.number c.decimal-k.result c.part-zeros.result.now (take c.decimal-k.result c.decimal-k.new.out) f c.decimal-k.ensures.digits (omega arith) in
     named c.decimal-k.ensures.len (rw (f, c.decimal-k.ensures.digits) at c.put_name.ensures) (omega (arith, l))

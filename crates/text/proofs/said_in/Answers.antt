@@ -1,33 +1,40 @@
--- `text::said_in` meets its contract: after i turns the value is what the first i characters are worth. Assumes nothing.
-use Rattle.std.proofs.Common.{ℕ, ◌≤◌, cond, List, ◌≡◌, refl, sym, ◌∙◌, arith, eq-eqb, ne_eqb, lt-ltb, le-ltb, ltb, length, take, take_all}
-use Rattle.text.specs.declared.Said.TheVariants.{Number, NoNumber}
-use Rattle.text.specs.Number.{said_in}
-use Rattle.text.specs.Reading.{too_large, worth, worth_small, worth_more, said_by_worth}
+-- `text::said_in` meets its contract: a character that is no digit and a value that is too large are refused where they are met, and
+-- every other text is read to its end. Assumes nothing.
+use Rattle.std.proofs.Common.{◌≡◌, ◌∙◌, get_or, arith, rules}
+use Rattle.std.specs.Char.{digit_value}
+use Rattle.text.proofs.Reading.{value_more, digits_more, no_digit, too_large, nothing, whole}
 use Rattle.text.proofs.said_in.Goals as goal
 
--- what is told of the value that the loop leaves
-told : (base : ℕ) (digits : List ℕ) (value i : ℕ) → (length digits ≡ 0 → ⊥) → value ≡ worth base (take i digits) → length digits ≤ i → said_in base digits ≡ cond (ltb value too_large) (Number value) NoNumber
-told base digits value i some e all =
-    let read : value ≡ worth base digits = e ∙ rw (take_all i digits all) in
-    rw (said_by_worth base digits, ne_eqb (length digits) 0 some, ← read)
+pub returns-then-is_empty : goal.returns-then-is_empty
+returns-then-is_empty c = nothing c.args.base c.args.digits.now (search rules)
 
-pub returns-then-digits-eq0 : goal.returns-then-digits-eq0
-returns-then-digits-eq0 c = rw (said_by_worth c.args.base c.args.digits.now, eq-eqb (length c.args.digits.now) 0 c.if-digits-eq0.true)
+pub returns-in_err-digit : goal.returns-in_err-digit
+returns-in_err-digit c =
+    let i = c.loop-character.character-index in
+    let here : digit_value (get_or c.args.digits.now i 0) ≡ digit_value c.from.result = cc in
+    c.from_residual.ensures ∙ no_digit c.args.base c.args.digits.now i c.loop-character-test.true (omega (arith, c.in_err-digit.ensures.value))
 
-pub loop-i-init : goal.loop-i-init
-unfolding worth
-loop-i-init c = refl
+pub returns-in_err-checked_mul : goal.returns-in_err-checked_mul
+returns-in_err-checked_mul c =
+    let i = c.loop-character.character-index in
+    c.from_residual-in_err-checked_mul.ensures ∙ too_large c.args.base c.args.digits.now i c.loop-character-test.true (omega arith) c.loop-character.invariant.value (omega (arith, c.in_err-checked_mul.ensures))
 
-pub read_on-value-requires-clause-value_le_too_large : goal.read_on-value-requires-clause-value_le_too_large
-read_on-value-requires-clause-value_le_too_large c = omega (arith, c.loop-i.invariant, worth_small c.args.base (take c.loop-i.i c.args.digits.now))
+pub returns-in_err-value : goal.returns-in_err-value
+returns-in_err-value c =
+    let i = c.loop-character.character-index in
+    let here : digit_value (get_or c.args.digits.now i 0) ≡ digit_value c.from.result = cc in
+    c.from_residual-in_err-value.ensures ∙ too_large c.args.base c.args.digits.now i c.loop-character-test.true (omega arith) c.loop-character.invariant.value (omega (arith, c.in_err-value.ensures, c.in_ok-checked_mul.ensures, c.in_ok-digit.ensures.value))
 
-pub loop-i-preserved : goal.loop-i-preserved
-loop-i-preserved c = c.read_on-value.ensures ∙ rw c.loop-i.invariant (sym (worth_more c.args.base c.requires.0 c.args.digits.now c.loop-i.i (omega arith)))
+pub loop-character-preserved : goal.loop-character-preserved
+loop-character-preserved c =
+    let i = c.loop-character.character-index in
+    let here : digit_value (get_or c.args.digits.now i 0) ≡ digit_value c.from.result = cc in
+    record {
+      digits = digits_more c.args.base c.args.digits.now i c.loop-character-test.true (omega (arith, c.in_ok-digit.ensures.value)) c.loop-character.invariant.digits;
+      value = omega (arith, value_more c.args.base c.args.digits.now i c.loop-character-test.true c.loop-character.invariant.value, c.in_ok-value.ensures, c.in_ok-checked_mul.ensures, c.in_ok-digit.ensures.value);
+      fits = omega (arith, c.in_ok-value.ensures);
+    }
 
-pub returns-then-value-lt-TOO_LARGE : goal.returns-then-value-lt-TOO_LARGE
-returns-then-value-lt-TOO_LARGE c =
-    rw (told c.args.base c.args.digits.now c.loop-i.value c.loop-i.i c.if-digits-eq0.false c.loop-i.invariant (omega arith), lt-ltb c.loop-i.value too_large (omega arith))
-
-pub returns-else-value-lt-TOO_LARGE : goal.returns-else-value-lt-TOO_LARGE
-returns-else-value-lt-TOO_LARGE c =
-    rw (told c.args.base c.args.digits.now c.loop-i.value c.loop-i.i c.if-digits-eq0.false c.loop-i.invariant (omega arith), le-ltb c.loop-i.value too_large (omega arith))
+pub returns : goal.returns
+returns c =
+    whole c.args.base c.args.digits.now (search rules) c.loop-character-test.false c.loop-character.invariant.digits c.loop-character.invariant.value (omega arith)

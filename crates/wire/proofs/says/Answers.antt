@@ -19,4 +19,4 @@ overflow_sub-result c = omega (arith, c.requires.payload_in_bounds)
 
 pub returns : goal.returns
 unfolding said scan_at
-returns c = rw (c.header.ensures, c.u24_at.ensures, c.u32_at.ensures, c.byte_at.ensures, c.tables_length-tables_length.ensures, c.tables_at-tables_at.ensures, c.requires.rest.place, c.requires.rest.bytes)
+returns c = rw (c.header.ensures, c.number_at.ensures, c.number_at-2.ensures, c.from.ensures, c.byte_at.ensures, c.tables_length-tables_length.ensures, c.tables_at-tables_at.ensures, c.requires.rest.place, c.requires.rest.bytes)

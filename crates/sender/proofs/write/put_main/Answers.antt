@@ -6,4 +6,4 @@ use Rattle.sender.proofs.write.put_main.Goals as goal
 
 pub returns : goal.returns
 unfolding spelled
-returns c = puts_more c.put_u8.ensures (puts_more c.put_u24.ensures c.put_fields.ensures (omega arith) refl) (omega arith) refl
+returns c = puts_more c.put_bytes.ensures (puts_more c.put_number.ensures c.put_bytes-2.ensures (omega arith) refl) (omega arith) refl

@@ -7,5 +7,5 @@ use Rattle.sender.proofs.write.put_rtp.Goals as goal
 pub returns : goal.returns
 unfolding spelled
 returns c =
-    rw (← c.wrapping_add_u16.ensures.value)
-    (puts_more c.put_u8.ensures (puts_more c.put_u8-2.ensures (puts_more c.put_u16.ensures (puts_more c.put_u32.ensures c.put_u32-2.ensures (omega arith) refl) (omega arith) refl) (omega arith) refl) (omega arith) refl)
+    let sequence = rw c.from.ensures at c.put_number.ensures in
+    puts_more c.put_bytes.ensures (puts_more sequence (puts_more c.put_number-2.ensures c.put_number-3.ensures (omega arith) refl) (omega arith) refl) (omega arith) refl

@@ -5,4 +5,4 @@ use Rattle.tables.specs.MakeTables.{makes_all}
 use Rattle.state.proofs.check.are_made.Goals as goal
 
 pub returns : goal.returns
-returns c = c.are_same.ensures ∙ ap (same c.args.tables) (makes_all c.args.q c.requires (search rules) c.make_tables.ensures)
+returns c = c.are_same.ensures ∙ ap (same c.args.tables.now) (makes_all c.args.q c.requires (search rules) c.make_tables.ensures)

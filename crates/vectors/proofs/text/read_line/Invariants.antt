@@ -1,9 +1,6 @@
--- The line stays within the buffer, which keeps its length.
-use Rattle.std.proofs.Common.{◌≤◌, ◌≡◌, ◌-◌, length}
+-- As many bytes came as places were filled.
+use Rattle.std.proofs.Common.{◌≤◌}
 use Rattle.vectors.proofs.text.read_line.Given as goal
 
-abbrev pub invariant-loop-n : goal.invariant-loop-n
-invariant-loop-n g l = (l.n ≤ length l.buffer) × (length l.buffer ≡ length l.initial.buffer)
-
-abbrev pub decreases-loop-n : goal.decreases-loop-n
-decreases-loop-n g l = length l.initial.buffer - l.n
+abbrev pub invariant-loop-place : goal.invariant-loop-place
+invariant-loop-place g l = l.length ≤ l.place-index

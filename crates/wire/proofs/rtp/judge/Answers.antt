@@ -26,13 +26,13 @@ returns-then-byte_at-ne26 c =
     let passed-3 : PastFirst 3 (rtp_checks c.args.source c.args.packet.now) = passes passed-2 (same _ _ (rw c.byte_at.ensures at c.if-byte_at-ne2.false)) in
     sym (fails passed-3 (other _ _ (rw c.byte_at-2.ensures at c.if-byte_at-ne26.true)))
 
-pub returns-then-u32_at-source : goal.returns-then-u32_at-source
-returns-then-u32_at-source c =
+pub returns-then-number_at-source : goal.returns-then-number_at-source
+returns-then-number_at-source c =
     let passed-1 : PastFirst 1 (rtp_checks c.args.source c.args.packet.now) = passes start (le-ltb _ _ c.if-packet-gt2048.false) in
     let passed-2 : PastFirst 2 (rtp_checks c.args.source c.args.packet.now) = passes passed-1 (le-ltb _ _ c.if-packet-lt12.false) in
     let passed-3 : PastFirst 3 (rtp_checks c.args.source c.args.packet.now) = passes passed-2 (same _ _ (rw c.byte_at.ensures at c.if-byte_at-ne2.false)) in
     let passed-4 : PastFirst 4 (rtp_checks c.args.source c.args.packet.now) = passes passed-3 (same _ _ (rw c.byte_at-2.ensures at c.if-byte_at-ne26.false)) in
-    sym (fails passed-4 (other _ _ (rw c.u32_at.ensures at c.if-u32_at-source.true)))
+    sym (fails passed-4 (other _ _ (rw c.number_at.ensures at c.if-number_at-source.true)))
 
 pub returns-then-packet-end : goal.returns-then-packet-end
 returns-then-packet-end c =
@@ -40,7 +40,7 @@ returns-then-packet-end c =
     let passed-2 : PastFirst 2 (rtp_checks c.args.source c.args.packet.now) = passes passed-1 (le-ltb _ _ c.if-packet-lt12.false) in
     let passed-3 : PastFirst 3 (rtp_checks c.args.source c.args.packet.now) = passes passed-2 (same _ _ (rw c.byte_at.ensures at c.if-byte_at-ne2.false)) in
     let passed-4 : PastFirst 4 (rtp_checks c.args.source c.args.packet.now) = passes passed-3 (same _ _ (rw c.byte_at-2.ensures at c.if-byte_at-ne26.false)) in
-    let passed-5 : PastFirst 5 (rtp_checks c.args.source c.args.packet.now) = passes passed-4 (same _ _ (sym c.u32_at.ensures ∙ c.if-u32_at-source.false)) in
+    let passed-5 : PastFirst 5 (rtp_checks c.args.source c.args.packet.now) = passes passed-4 (same _ _ (sym c.number_at.ensures ∙ c.if-number_at-source.false)) in
     sym (fails passed-5 (lt-ltb _ _ (rw c.headers_end-end.ensures at c.if-packet-end.true)))
 
 pub returns-then-padding_broken : goal.returns-then-padding_broken
@@ -49,7 +49,7 @@ returns-then-padding_broken c =
     let passed-2 : PastFirst 2 (rtp_checks c.args.source c.args.packet.now) = passes passed-1 (le-ltb _ _ c.if-packet-lt12.false) in
     let passed-3 : PastFirst 3 (rtp_checks c.args.source c.args.packet.now) = passes passed-2 (same _ _ (rw c.byte_at.ensures at c.if-byte_at-ne2.false)) in
     let passed-4 : PastFirst 4 (rtp_checks c.args.source c.args.packet.now) = passes passed-3 (same _ _ (rw c.byte_at-2.ensures at c.if-byte_at-ne26.false)) in
-    let passed-5 : PastFirst 5 (rtp_checks c.args.source c.args.packet.now) = passes passed-4 (same _ _ (sym c.u32_at.ensures ∙ c.if-u32_at-source.false)) in
+    let passed-5 : PastFirst 5 (rtp_checks c.args.source c.args.packet.now) = passes passed-4 (same _ _ (sym c.number_at.ensures ∙ c.if-number_at-source.false)) in
     let passed-6 : PastFirst 6 (rtp_checks c.args.source c.args.packet.now) = passes passed-5 (le-ltb _ _ (rw c.headers_end-end.ensures at c.if-packet-end.false)) in
     sym (fails passed-6 (sym c.padding_broken.ensures ∙ c.if-padding_broken.true))
 
@@ -59,6 +59,6 @@ returns c =
     let passed-2 : PastFirst 2 (rtp_checks c.args.source c.args.packet.now) = passes passed-1 (le-ltb _ _ c.if-packet-lt12.false) in
     let passed-3 : PastFirst 3 (rtp_checks c.args.source c.args.packet.now) = passes passed-2 (same _ _ (rw c.byte_at.ensures at c.if-byte_at-ne2.false)) in
     let passed-4 : PastFirst 4 (rtp_checks c.args.source c.args.packet.now) = passes passed-3 (same _ _ (rw c.byte_at-2.ensures at c.if-byte_at-ne26.false)) in
-    let passed-5 : PastFirst 5 (rtp_checks c.args.source c.args.packet.now) = passes passed-4 (same _ _ (sym c.u32_at.ensures ∙ c.if-u32_at-source.false)) in
+    let passed-5 : PastFirst 5 (rtp_checks c.args.source c.args.packet.now) = passes passed-4 (same _ _ (sym c.number_at.ensures ∙ c.if-number_at-source.false)) in
     let passed-6 : PastFirst 6 (rtp_checks c.args.source c.args.packet.now) = passes passed-5 (le-ltb _ _ (rw c.headers_end-end.ensures at c.if-packet-end.false)) in
     sym (none_left (passes passed-6 (sym c.padding_broken.ensures ∙ c.if-padding_broken.false)))

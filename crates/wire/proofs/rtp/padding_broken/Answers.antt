@@ -11,10 +11,10 @@ pub returns-then-n-lt1 : goal.returns-then-n-lt1
 unfolding padding_broken
 returns-then-n-lt1 c =
     let p = c.args.packet.now in
-    rw (eq-eqb (fixed p).padding 1 (omega arith), lt-ltb (dropped p) 1 (omega arith))
+    rw (eq-eqb (fixed p).padding 1 (omega arith), lt-ltb (dropped p) 1 (omega arith), lt-ltb _ 1 c.if-n-lt1.true)
 
-pub returns : goal.returns
+pub returns-else-n-lt1 : goal.returns-else-n-lt1
 unfolding padding_broken
-returns c =
+returns-else-n-lt1 c =
     let p = c.args.packet.now in
     rw (eq-eqb (fixed p).padding 1 (omega arith), le-ltb (dropped p) 1 (omega arith), ← c.padding-n.ensures, ← c.requires.end_value)

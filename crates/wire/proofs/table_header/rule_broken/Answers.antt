@@ -22,14 +22,14 @@ unfolding precision
 returns-in-0 c =
     let header : has_table_header c.args.payload.now ≡ true = sym c.has_table_header.ensures ∙ c.if-not-has_table_header.false in
     let narrow : precision c.args.payload.now ≡ 0 = rw (← c.restart_end.ensures, ← c.byte_at.ensures) c.if-byte_at-ne0.false in
-    c.always_brought.ensures ∙ sym (rule_none _ header narrow (sym c.tables_length-length.ensures ∙ c.in-0.is))
+    c.always_brought.ensures ∙ sym (rule_none _ header narrow (sym c.requires.tables_len ∙ c.in-0.is))
 
 pub returns-in-128 : goal.returns-in-128
 unfolding precision
 returns-in-128 c =
     let header : has_table_header c.args.payload.now ≡ true = sym c.has_table_header.ensures ∙ c.if-not-has_table_header.false in
     let narrow : precision c.args.payload.now ≡ 0 = rw (← c.restart_end.ensures, ← c.byte_at.ensures) c.if-byte_at-ne0.false in
-    c.has_zero.ensures ∙ ap (any is_zero) c.requires.tables_value ∙ sym (rule_full _ header narrow (sym c.tables_length-length.ensures ∙ c.in-128.is))
+    c.contains.ensures.value ∙ ap (any is_zero) c.requires.tables_value ∙ sym (rule_full _ header narrow (sym c.requires.tables_len ∙ c.in-128.is))
 
 pub returns-in_default : goal.returns-in_default
 unfolding precision

@@ -1,9 +1,0 @@
--- `head::headers::put_frame` meets its contract: the content is the definition's, byte for byte. Assumes nothing.
-use mathlib.Core.List.{flat_map}
-use Rattle.laws.specs.Spelled.{spelled}
-use Rattle.head.specs.Head.{frame_header}
-use Rattle.head.proofs.headers.put_frame.Goals as goal
-
-pub returns : goal.returns
-unfolding frame_header spelled flat_map
-returns c = rw c.luma_sampling-sampling.ensures at c.put_segment.ensures
