@@ -40,6 +40,7 @@ fn judge(receiver: &Receiver, area: &[u8]) -> Result<(), Refusal>
     Ok(())
 }
 
+// No `TryFrom`: it is for lawful fields alone.
 fn frame_of(receiver: &Receiver) -> Frame
     requires { Lawful (header_of receiver.now) }
     ensures { result ≡ frame_of receiver.now }

@@ -1,4 +1,4 @@
--- The cases that document 01 marks with a star under "Both sides of each line", as one table that the checker computes.
+-- Cases on both sides of each bound, as one table that the checker computes.
 -- Assumes nothing.
 use Rattle.std.specs.Prelude.{refl}
 use Rattle.receiver.specs.Picture.{picture_for}

@@ -1,4 +1,4 @@
--- Demand 3. `Delivery` has what its words mean, and `Provenance` those of its last sentence. Assumes nothing.
+-- Delivery and provenance: `Delivery` and `Provenance` say what they mean. Assumes nothing.
 use Rattle.std.proofs.Common.{sym, ap, subst, ◌∙◌, arith}
 use Rattle.std.proofs.Math.Seq.{take-append_seam}
 use Rattle.std.specs.Prelude.{ℕ, ◌<◌, true, List, [], ◌∷◌, ◌++◌, ◌≡◌, refl, length, drop}

@@ -141,8 +141,8 @@ take_record r area bytes t t' after after' a b = (only t t' a.taken b.taken, onl
 
 -- `records::take_next`: the bytes that came decide the rest
 pub take_next : TakeNextIsDetermined
-take_next left r area bytes t t' after after' a b =
-    take_record r area bytes t t' after after' (rw a.3 at a.2.takes) (rw b.3 at b.2.takes)
+take_next left r area before bytes t t' after after' a b =
+    take_record r area bytes t t' after after' (rw a.4 at a.3.takes) (rw b.4 at b.3.takes)
 
 -- the counts of a run: `tally::none`, `tally::add`, `tally::close` and `tally::accepted`
 pub no_counts : NoCountsIsDetermined

@@ -1,4 +1,4 @@
--- Document 01's numbers for the file, as one table that the checker computes. Assumes nothing.
+-- Lengths and bytes of some files, as one table that the checker computes. Assumes nothing.
 use Rattle.std.specs.Prelude.{refl}
 use Rattle.demands.specs.Computing.{computes_file}
 use Rattle.demands.specs.FileCases.{FileCases}

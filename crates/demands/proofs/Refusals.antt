@@ -1,5 +1,5 @@
--- Demand 1: "A refusal has a number, hands back the receiver it was given, and changes no lent byte." Again, which is no refusal,
--- hands both back too. Assumes nothing.
+-- A refusal has a number, gives back the receiver that it was handed, and changes no byte that it was lent; so does Again, which is no
+-- refusal. Assumes nothing.
 use Rattle.std.proofs.Common.{sym, ap, ap₂, ◌∙◌, ne_eqb}
 use Rattle.std.specs.Prelude.{ℕ, true, List, [], ◌∷◌, ◌≡◌, refl}
 use Rattle.builder.specs.Building as Building

@@ -1,4 +1,4 @@
--- Useless builds are shut out: each fails, on a picture of two packets, what document 01 names for it. Assumes nothing.
+-- Useless builds are shut out: each fails, on a picture of two packets, one of the things asked. Assumes nothing.
 use Rattle.std.proofs.Common.{inl, sym, ap, subst, ◌∙◌, arith}
 use Rattle.std.specs.Prelude.{ℕ, ◌<◌, Bool, true, List, [], ◌∷◌, map, ◌≡◌, refl, length, get_or, replicate}
 use Rattle.laws.specs.Each.{Each, each_parts}
@@ -32,7 +32,7 @@ use Rattle.demands.specs.TwoPackets.{stamp, four, cs, in_transcript}
 use Rattle.demands.specs.Useless.{CountsHeld, refusing, saying_held, never_writing, claiming, at_offset0}
 use Rattle.demands.specs.ShutOut.{RefusingIsOut, SayingHeldIsOut, NeverWritingIsOut, ClaimingIsOut, ClaimedFilesAreOut, ConstantIsOut, InventedIsOut, CountByPacketIsOut, StepsCountHeld, SenderCutsAsSaid}
 
--- The picture of document 01's transcript, whose two packets come in order to a fresh receiver.
+-- The picture of `Transcript`, whose two packets come in order to a fresh receiver.
 abbrev start : State
 start = state (fresh 1 4) (replicate 4 7)
 
@@ -58,13 +58,13 @@ module _ (f : State → List ℕ → Outcome State) (delivers : Delivers f) wher
   delivered : Delivered f four 2 in_transcript start arrivals
   delivered = delivers 1 4 (replicate 4 7) [] (omega arith) refl tt stamp four cs in_transcript arrivals packets awaited arrive
 
--- "a receiver that refuses all packets", with whatever numbers, that of whole aside
+-- a receiver that refuses every packet, with whatever numbers, that of whole aside
 pub refuses_all : RefusingIsOut
 refuses_all number refusal d =
     let w = (delivered (refusing number) d).whole_once in
     refusal (left_by (refusing number) in_transcript start w.before) (in_transcript w.last) w.whole
 
--- "says 'held' to all"
+-- one that answers every packet with held
 pub says_held : SayingHeldIsOut
 says_held f d = omega (arith, (delivered (saying_held f) d).whole_once.whole)
 
@@ -82,7 +82,7 @@ record Claimed (takes : Receiver → Packet → Bool) : Type 0 where
   whole : (claimed takes).receiver.whole ≡ 1
   end : (claimed takes).receiver.end ≡ 4
 
--- What our sender answers when it is asked for packet k of document 01's picture of 173 bytes, which it cuts in two.
+-- What our sender answers when it is asked for packet k of a picture with a scan of 173 bytes, which it cuts in two.
 abbrev asked_for : ℕ → Written
 asked_for k = answer_of (fitted Refusal.PacketOutput (replicate 192 0) (sending (plain 173) 192 stamp k))
 
@@ -110,13 +110,13 @@ computed = record {
   packet_1 = refl;
 }
 
--- "never writes the area", whatever it does else
+-- one that writes nothing into the area, whatever it does else
 pub never_writes : NeverWritingIsOut
 never_writes f d =
     let same = area_stays f start (map (bytes_in in_transcript) arrivals) in
     no_file (left_by (never_writing f) in_transcript start arrivals) (ap length same) (ap no_front_ends_so same ∙ computed.sevens) (delivered (never_writing f) d).file
 
--- "one that takes the first packet and only claims the others, by demand 3's bytes": byte 2 is none that a packet brought,
+-- one that takes the first packet and only claims the others: byte 2 is none that a packet brought,
 module _ (takes : Receiver → Packet → Bool) (c : Claimed takes) where
   byte_not_brought : WholeAsBrought (claiming takes) → ⊥
   byte_not_brought w =
@@ -141,7 +141,7 @@ only_claims = (byte_not_brought starts computed.but_the_start, byte_not_brought 
 pub only_claims_file : ClaimedFilesAreOut
 only_claims_file = (file_not_theirs starts computed.but_the_start, file_not_theirs at_offset0 computed.but_offset_0)
 
--- "a constant sender", whatever it gives: the first packet has 192 bytes, and the second 21
+-- a sender that gives the same for every index, whatever it gives: the first packet has 192 bytes, and the second 21
 pub constant_sender : ConstantIsOut
 constant_sender f c =
     let ask : (k : ℕ) → (f (plain 173) 192 stamp (replicate 192 0)).answer ≡ asked_for k = λ k. (c (plain 173) 192 stamp k (replicate 192 0)).answer in
@@ -157,7 +157,7 @@ counts_itself x p bytes =
     (λ w. let answered = answers_9 r x.area p w in
     ap (λ (d : Received). d.answer.held) answered ∙ sym (ap (λ (d : Received). held d.receiver) answered ∙ held_else r w))
 
--- "an invented byte count, by the reply rule": one that is another than the receiver's, for any packet in any state,
+-- one that answers a count other than the receiver's, for any packet in any state,
 pub invented_count : InventedIsOut
 invented_count count x p bytes differs c = differs (c x p bytes ∙ sym (counts_itself x p bytes))
 

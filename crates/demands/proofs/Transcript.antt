@@ -1,4 +1,4 @@
--- Document 01's transcript on the definitions, computed. Assumes nothing.
+-- A transcript of four packets on the definitions, computed: the second of a picture, again, the first, again. Assumes nothing.
 use Rattle.std.proofs.Common.{arith}
 use Rattle.std.specs.Prelude.{refl, replicate}
 use Rattle.wire.specs.Field.{Bytes}

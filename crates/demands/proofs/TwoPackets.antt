@@ -1,5 +1,5 @@
--- Pictures of two packets delivered backwards, with a repeat and with other packets between: what demand 3 asks of arrivals can be met,
--- and what its last sentence says of them. Assumes nothing.
+-- Pictures of two packets delivered backwards, with a repeat and with other packets between: what delivery asks of arrivals can be met,
+-- and what provenance says of them. Assumes nothing.
 use Rattle.std.proofs.Common.{inl, inr, sym, ap, ◌∙◌, arith}
 use Rattle.std.specs.Prelude.{ℕ, zero, suc, ◌+◌, ◌≤◌, ◌<◌, true, [], ◌∷◌, ◌≡◌, refl, eqb, length, replicate}
 use Rattle.fragments.specs.Fragments.{fragment_at}
@@ -81,7 +81,7 @@ earlier = let b : Bytes older = omega arith in (b, tt)
 pub transcript_delivered : TranscriptDelivered
 transcript_delivered = delivers step (λ x p. record { answer = refl; lent = refl }) 1 200 area (older ∷ []) (omega arith) refl earlier stamp four cs in_transcript arrivals packets (awaited four refl (omega arith)) arrive
 
--- The last sentence on the same history, of two pictures: each byte was brought by a packet of the one that is held. The packet of the
+-- Provenance on the same history, of two pictures: each byte was brought by a packet of the one that is held. The packet of the
 -- earlier picture was accepted too, but not for this one, which was started later.
 pub transcript_as_brought : TranscriptAsBrought
 transcript_as_brought =

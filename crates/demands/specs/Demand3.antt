@@ -1,4 +1,4 @@
--- Demand 3. `Delivery` has what its words mean, and `Provenance` those of its last sentence. Assumes nothing.
+-- Delivery and provenance: `Delivery` and `Provenance` say what they mean. Assumes nothing.
 use Rattle.std.specs.Prelude.{ℕ, ◌^◌, ◌<◌, List, [], ◌∷◌, ◌++◌, ◌≡◌, length, take}
 use Rattle.builder.specs.Building.{Builds, file_of}
 use Rattle.fragments.specs.Fragments.{fragment_at}

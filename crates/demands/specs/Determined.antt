@@ -1,5 +1,5 @@
 -- Any two outcomes of a public function that satisfy its contract, at the same inputs, are equal. Assumes nothing.
-use Rattle.std.specs.Prelude.{◌≡◌, ℕ, List, Option, Result, take}
+use Rattle.std.specs.Prelude.{◌≡◌, ℕ, Bool, List, Option, Result, take}
 use Rattle.builder.specs.Building.{Builds}
 use Rattle.fragments.specs.Array.{Surveys, Places, PutsIn, HasNone}
 use Rattle.fragments.specs.declared.Fragment.{Fragment}
@@ -174,7 +174,7 @@ TakeRecordIsDetermined = (r : Receiver) (area bytes : List ℕ) → DeterminesBo
 
 -- `records::take_next`: the input decides which bytes come, and they decide the rest
 abbrev pub TakeNextIsDetermined : Type 0
-TakeNextIsDetermined = (left : Option (List ℕ)) (r : Receiver) (area bytes : List ℕ) → DeterminesBoth (λ (t : Taken) (after : List ℕ). (buffer : List ℕ) × (left_after : Option (List ℕ)) × (came : TakesNext left r area buffer t after left_after) × (take came.n buffer ≡ bytes))
+TakeNextIsDetermined = (left : Option (List ℕ)) (r : Receiver) (area before bytes : List ℕ) → DeterminesBoth (λ (t : Taken) (after : List ℕ). (buffer : List ℕ) × (unfailed : Bool) × (left_after : Option (List ℕ)) × (came : TakesNext left r area before buffer t unfailed after left_after) × (take came.n buffer ≡ bytes))
 
 -- the counts of a run: `tally::none`, `tally::add`, `tally::close` and `tally::accepted`
 abbrev pub NoCountsIsDetermined : Type 0

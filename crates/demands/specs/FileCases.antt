@@ -1,4 +1,4 @@
--- Document 01's numbers for the file, as one table that the checker computes. Assumes nothing.
+-- Lengths and bytes of some files, as one table that the checker computes. Assumes nothing.
 use Rattle.std.specs.Prelude.{ℕ, ◌+◌, List, [], ◌∷◌, ◌≡◌, length, take, drop}
 use Rattle.builder.specs.File.{body, file}
 use Rattle.head.specs.Head.{restarts, head}

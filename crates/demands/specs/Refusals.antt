@@ -1,5 +1,5 @@
--- Demand 1: "A refusal has a number, hands back the receiver it was given, and changes no lent byte." Again, which is no refusal,
--- hands both back too. Assumes nothing.
+-- A refusal has a number, gives back the receiver that it was handed, and changes no byte that it was lent; so does Again, which is no
+-- refusal. Assumes nothing.
 use Rattle.std.specs.Prelude.{ℕ, Bool, true, List, [], ◌∷◌, ◌++◌, ◌≡◌, eqb, Err}
 use Rattle.laws.specs.Any.{any}
 use Rattle.receiver.specs.Step.{held, Receives}
@@ -24,7 +24,7 @@ use Rattle.tables.specs.MakeTables.{MakesTables}
 use Rattle.wire.specs.Reading.{Reads}
 use Rattle.demands.specs.History.{State, Calls, NotAccepted, answer_in}
 
--- The numbers of refusals in document 01's table of replies: of table making, the sender, the builder, the reader and the receiver.
+-- The numbers of refusals: of table making, the sender, the builder, the reader and the receiver.
 abbrev pub of_tables : List ℕ
 of_tables = 34 ∷ 35 ∷ []
 

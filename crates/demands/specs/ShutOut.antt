@@ -1,4 +1,4 @@
--- Useless builds are shut out: each fails, on a picture of two packets, what document 01 names for it. Assumes nothing.
+-- Useless builds are shut out: each fails, on a picture of two packets, one of the things asked. Assumes nothing.
 use Rattle.std.specs.Prelude.{ℕ, List, ◌≡◌}
 use Rattle.receiver.specs.Picture.{starts}
 use Rattle.replies.specs.Output.{fitted, answer_of, output_of}
@@ -13,15 +13,15 @@ use Rattle.demands.specs.History.{State, Outcome, step, MeetsContract}
 use Rattle.demands.specs.Provenance.{WholeAsBrought}
 use Rattle.demands.specs.Useless.{CountsHeld, Gave, CutsAsSaid, refusing, saying_held, never_writing, claiming, at_offset0, inventing, constant}
 
--- "a receiver that refuses all packets", with whatever numbers, that of whole aside
+-- a receiver that refuses every packet, with whatever numbers, that of whole aside
 abbrev pub RefusingIsOut : Type 0
 RefusingIsOut = (number : State → List ℕ → ℕ) → ((x : State) (p : List ℕ) → number x p ≡ Reply.whole → ⊥) → Delivers (refusing number) → ⊥
 
--- "says 'held' to all"
+-- one that answers every packet with held
 abbrev pub SayingHeldIsOut : Type 0
 SayingHeldIsOut = (f : State → List ℕ → Outcome State) → Delivers (saying_held f) → ⊥
 
--- "never writes the area", whatever it does else
+-- one that writes nothing into the area, whatever it does else
 abbrev pub NeverWritingIsOut : Type 0
 NeverWritingIsOut = (f : State → List ℕ → Outcome State) → Delivers (never_writing f) → ⊥
 
@@ -31,11 +31,11 @@ ClaimingIsOut = (WholeAsBrought (claiming starts) → ⊥) × (WholeAsBrought (c
 abbrev pub ClaimedFilesAreOut : Type 0
 ClaimedFilesAreOut = (Delivers (claiming starts) → ⊥) × (Delivers (claiming at_offset0) → ⊥)
 
--- "a constant sender", whatever it gives: the first packet has 192 bytes, and the second 21
+-- a sender that gives the same for every index, whatever it gives: the first packet has 192 bytes, and the second 21
 abbrev pub ConstantIsOut : Type 0
 ConstantIsOut = (f : Picture → ℕ → Stamp → List ℕ → Gave) → CutsAsSaid (constant f) → ⊥
 
--- "an invented byte count, by the reply rule": one that is another than the receiver's, for any packet in any state,
+-- one that answers a count other than the receiver's, for any packet in any state,
 abbrev pub InventedIsOut : Type 0
 InventedIsOut = (count : State → List ℕ → ℕ) (x : State) (p : List ℕ) → Bytes p → (count x p ≡ (step x p).answer.held → ⊥) → CountsHeld (inventing count) → ⊥
 

@@ -1,4 +1,4 @@
--- Document 01's transcript on the definitions, computed. Assumes nothing.
+-- A transcript of four packets on the definitions, computed: the second of a picture, again, the first, again. Assumes nothing.
 use Rattle.std.specs.Prelude.{ℕ, ◌+◌, List, [], ◌∷◌, ◌≡◌, length, take, replicate}
 use Rattle.builder.specs.Building.{checks, file_of}
 use Rattle.receiver.specs.Step.{held}
@@ -8,7 +8,7 @@ use Rattle.state.specs.Receiver.{fresh}
 use Rattle.state.specs.declared.Answer.{Answer}
 use Rattle.demands.specs.History.{State, state, step, after, answers}
 
--- its second packet, and its first
+-- the picture's second packet, and its first
 abbrev pub second : List ℕ
 second = 0x80 ∷ 0x9A ∷ 0x00 ∷ 0x01 ∷ 0x00 ∷ 0x00 ∷ 0x03 ∷ 0xE8 ∷ 0x00 ∷ 0x00 ∷ 0x00 ∷ 0x01 ∷ 0x00 ∷ 0x00 ∷ 0x00 ∷ 0x02 ∷ 0x01 ∷ 0x32 ∷ 0x02 ∷ 0x02 ∷ 0xCC ∷ 0xDD ∷ []
 
@@ -25,11 +25,11 @@ start = state (fresh 1 6) (replicate 6 7)
 abbrev pub answer : ℕ → ℕ → Answer
 answer reply held = record { reply = reply; held = held }
 
--- "1 0 2", "2 2 2", "3 1 4", "4 22 4"
+-- the reply to each, and how many bytes of the scan are held then
 abbrev pub lines : List Answer
 lines = answer 0 2 ∷ answer 2 2 ∷ answer 1 4 ∷ answer 22 4 ∷ []
 
--- What its first three packets leave. "The file after packet 3 has 605 + 4 + 2 = 611 bytes."
+-- What its first three packets leave: a whole picture, of whose file 605 bytes are the head, 4 the scan and 2 the closing marker.
 abbrev pub left : State
 left = after step start (take 3 packets)
 

@@ -1,5 +1,5 @@
--- Pictures of two packets delivered backwards, with a repeat and with other packets between: what demand 3 asks of arrivals can be met,
--- and what its last sentence says of them. Assumes nothing.
+-- Pictures of two packets delivered backwards, with a repeat and with other packets between: what delivery asks of arrivals can be met,
+-- and what provenance says of them. Assumes nothing.
 use Rattle.std.specs.Prelude.{ℕ, List, [], ◌∷◌, map, ◌≡◌, length, get_or, take, replicate, Ok, Err}
 use Rattle.fragments.specs.Fragments.{fragment_at}
 use Rattle.fragments.specs.declared.Fragment.{Fragment}
@@ -39,7 +39,7 @@ stamp = record { start = 0; time = 1000; source = 1 }
 abbrev pub arrivals : List Arrival
 arrivals = ours 1 ∷ other foreign ∷ ours 1 ∷ other older ∷ ours 0 ∷ ours 1 ∷ []
 
--- The picture of document 01's transcript, its two cuts, and its packets as they stand there.
+-- The picture of `Transcript`, its two cuts, and its packets as they stand there.
 abbrev pub four : Picture
 four = picture (record { kind = 1; q = 50; width = 2; height = 2; interval = 0 }) [] (0xAA ∷ 0xBB ∷ 0xCC ∷ 0xDD ∷ [])
 
@@ -69,7 +69,7 @@ pub record Computed : Type 0 where
   pub whole : (after step before came).receiver.whole ≡ 1
   pub bytes : take 4 (after step before came).area ≡ four.scan
 
--- And delivery of document 01's picture of 173 bytes, which our sender cuts in two where packets are of 192 bytes.
+-- And delivery of a picture with a scan of 173 bytes, which our sender cuts in two where packets are of 192 bytes.
 abbrev pub sent_packet : ℕ → List ℕ
 sent_packet k = Sender.packet stamp (plain 173) k (fragment_at (cuts 192 (plain 173)) k)
 
@@ -81,7 +81,7 @@ TranscriptDelivered = Delivered step four 2 in_transcript before arrivals
 abbrev pub SentDelivered : Type 0
 SentDelivered = Delivered step (plain 173) (length (cuts 192 (plain 173))) sent_packet before arrivals
 
--- The last sentence on the same history, of two pictures: each byte was brought by a packet of the one that is held. The packet of the
+-- Provenance on the same history, of two pictures: each byte was brought by a packet of the one that is held. The packet of the
 -- earlier picture was accepted too, but not for this one, which was started later.
 abbrev pub TranscriptAsBrought : Type 0
 TranscriptAsBrought = AsBrought step (state (fresh 1 200) area) (older ∷ came) (after step before came)

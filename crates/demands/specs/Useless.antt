@@ -1,4 +1,4 @@
--- The useless builds that document 01 names, each as a step or as a sender, and what is asked of any. That none of them meets it is in
+-- Useless builds, each as a step or as a sender, and what is asked of any. That none of them meets it is in
 -- `ShutOut`. Assumes nothing.
 use Rattle.std.specs.Prelude.{ℕ, Bool, false, cond, List, ◌≡◌, Ok, Err}
 use Rattle.receiver.specs.FirstPacket.{is_first}
@@ -14,9 +14,9 @@ use Rattle.wire.specs.Reading.{Reading, reading}
 use Rattle.wire.specs.declared.Packet.{Packet}
 use Rattle.demands.specs.History.{State, state, Outcome, step}
 
--- ---- what is asked, besides demand 3 (`Delivers`, `WholeAsBrought`)
+-- ---- what is asked, besides delivery and provenance (`Delivers`, `WholeAsBrought`)
 
--- "Receiver replies carry the number of scan bytes held afterwards", which is the sum of the held lengths.
+-- A receiver answers how many bytes of the scan it holds afterwards, which is the sum of the held lengths.
 abbrev pub CountsHeld : (State → List ℕ → Outcome State) → Type 0
 CountsHeld f = (x : State) (p : List ℕ) → Bytes p → (f x p).answer.held ≡ held (f x p).left.receiver
 
@@ -28,25 +28,25 @@ pub record Gave : Type 0 where
 abbrev pub Sender : Type 0
 Sender = Picture → ℕ → Stamp → ℕ → List ℕ → Gave
 
--- Demand 2, "Packets are cut as RFC 2435 says": it meets the contract of `sender::packet`.
+-- A sender cuts packets as RFC 2435 says: it meets the contract of `sender::packet`.
 abbrev pub CutsAsSaid : Sender → Type 0
 CutsAsSaid f = (p : Picture) (size : ℕ) (s : Stamp) (k : ℕ) (before : List ℕ) → Sends p size s k before (f p size s k before).answer (f p size s k before).output
 
 -- ---- the builds
 
--- "A receiver that refuses all packets", each with some number.
+-- A receiver that refuses every packet, each with some number.
 abbrev pub refusing : (State → List ℕ → ℕ) → State → List ℕ → Outcome State
 refusing number x p = record { answer = record { reply = number x p; held = held x.receiver }; left = x }
 
--- One that "says 'held' to all", and does else what any step does.
+-- One that answers every packet with held, and does else what any step does.
 abbrev pub saying_held : (State → List ℕ → Outcome State) → State → List ℕ → Outcome State
 saying_held f x p = record { answer = record { reply = Reply.held; held = (f x p).answer.held }; left = (f x p).left }
 
--- One that "never writes the area", and does else what any step does.
+-- One that writes nothing into the area, and does else what any step does.
 abbrev pub never_writing : (State → List ℕ → Outcome State) → State → List ℕ → Outcome State
 never_writing f x p = record { answer = (f x p).answer; left = state (f x p).left.receiver x.area }
 
--- "One that takes the first packet and only claims the others": these it answers and counts as held, and writes none of their bytes.
+-- One that takes the first packet and only claims the others: these it answers and counts as held, and writes none of their bytes.
 -- The first is, as `takes` tells of what was read, the one that starts its picture or the one at offset 0.
 abbrev pub is_taken : (Receiver → Packet → Bool) → Receiver → Reading → Bool
 is_taken takes r (Err n) = false
@@ -58,10 +58,10 @@ claiming takes x p = cond (is_taken takes x.receiver (reading x.receiver.source 
 abbrev pub at_offset0 : Receiver → Packet → Bool
 at_offset0 r s = is_first s
 
--- One with "an invented byte count", and else what the receiver does.
+-- One that makes up its count of bytes, and does else what the receiver does.
 abbrev pub inventing : (State → List ℕ → ℕ) → State → List ℕ → Outcome State
 inventing count x p = record { answer = record { reply = (step x p).answer.reply; held = count x p }; left = (step x p).left }
 
--- "A constant sender": whichever packet it is asked for, it gives the same.
+-- A sender that gives the same, whichever packet it is asked for.
 abbrev pub constant : (Picture → ℕ → Stamp → List ℕ → Gave) → Sender
 constant f p size s k before = f p size s before

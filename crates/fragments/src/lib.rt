@@ -18,12 +18,13 @@ use pair::{follows, share};
 pub struct Fragment {
     pub offset: u32,
     pub length: u32,
+    // C's struct: any number may stand here.
     pub marker: u32,
 }
 
 // Of the fragments held: whether they are in order, whether the first begins with byte 0 of the scan, where the last ends and its
 // marker, and how many bytes they have; and whether the places behind them are unused.
-#[derive(Clone, Copy)]
+#[derive(Clone, Copy, Debug, PartialEq, Eq)]
 pub struct Surveyed {
     pub ordered: bool,
     pub from_0: bool,
@@ -35,7 +36,7 @@ pub struct Surveyed {
 
 // Where a fragment goes: behind the first `at` of those held; and whether it shares a byte with the one in front of that place, or is
 // the same. At place 0 there is none in front, and a fragment of zeros stands for it.
-#[derive(Clone, Copy)]
+#[derive(Clone, Copy, Debug, PartialEq, Eq)]
 pub struct Placed {
     pub at: usize,
     pub shares: bool,

@@ -18,6 +18,7 @@ use crate::writer::Writer;
 // The interval is a number, since 0 is JPEG's own word for none (T.81 B.2.4.4), and what `length` takes.
 #[derive(Clone, Copy)]
 pub struct Frame {
+    // Any number: `put` takes all.
     pub kind: u8,
     pub width: u8,
     pub height: u8,

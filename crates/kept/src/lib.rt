@@ -9,6 +9,7 @@ use wire::TableSource;
 #[repr(C)]
 #[derive(Clone, Copy)]
 pub struct Kept {
+    // 0 stands for nothing kept: C's struct.
     pub q: u32,
     pub tables: [u8; 128],
 }
@@ -70,14 +71,9 @@ pub fn well_kept(kept: &Kept) -> bool
     }
 }
 
-// Whether no tables are known: all 128 numbers are 0. A flag has no early way out and is vectorised: `iter().all(..)` takes 45 ns for
-// blank tables where this takes 2.
+// Whether no tables are known: all 128 numbers are 0.
 pub fn is_blank(tables: &[u8; 128]) -> bool
     ensures { Store.TellsBlank tables.now result }
 {
-    let mut blank = true;
-    for &entry in tables {
-        blank &= entry == 0;
-    }
-    blank
+    *tables == [0; 128]
 }

@@ -49,7 +49,7 @@ fn run(rt: &HostRuntime, source: u32, prefix: &[u8]) {
     let mut not_written: u64 = 0;
     // A proved loop ends, and nothing says that the input does: no run comes to so many records.
     for _ in 0..u64::MAX {
-        let taken = records::take_next(&mut input, receiver, &mut area, &mut buffer);
+        let (taken, _) = records::take_next(&mut input, receiver, &mut area, &mut buffer);
         let Next::Answered(answer) = taken.came else {
             let tally = tally::close(tally, &receiver);
             report::write(rt, &tally, taken.came, not_written);
@@ -70,7 +70,7 @@ fn wholes(tally: &Tally) -> u64 {
     tally.replies[WHOLE as usize]
 }
 
-// A read that fails is an end like any other for `take_next`: one more read tells.
+// A read that fails is an end like any other, and told where the next one fails too: an interrupted one is no error of the input's.
 fn report_read_error(input: &mut impl Read, errors: &impl Print) {
     if let Err(error) = input.read(&mut [0u8; 1]) {
         failure::say(errors, b"standard input", &error);

@@ -18,7 +18,7 @@ pub(crate) fn save(
     prefix: &[u8],
     number: u64,
 ) -> io::Result<()> {
-    // The longest prefix, the most digits, and both endings.
+    // The longest prefix, the most digits, and both endings: every name fits, so of one that does not nothing is said.
     let mut name = [0u8; 4160];
     let Some(length) = text::file_name(prefix, number, &mut name) else {
         return Err(io::Error::from(ErrorKind::InvalidInput));

@@ -4,30 +4,6 @@ use records::Next;
 use replies::Refusal;
 use tally::Tally;
 
-// Why a receiver refuses a packet, in the order of the numbers.
-const REFUSALS: [Refusal; 20] = [
-    Refusal::AreaNotRoom,
-    Refusal::NotWellFormed,
-    Refusal::TooShort,
-    Refusal::TooLong,
-    Refusal::OtherVersion,
-    Refusal::OtherPayload,
-    Refusal::OtherSource,
-    Refusal::OtherType,
-    Refusal::OtherTypeSpecific,
-    Refusal::QReserved,
-    Refusal::SideZero,
-    Refusal::IntervalZero,
-    Refusal::TableRule,
-    Refusal::NoScan,
-    Refusal::Past,
-    Refusal::Unlike,
-    Refusal::Beyond,
-    Refusal::Clash,
-    Refusal::Full,
-    Refusal::Bare,
-];
-
 pub(crate) fn write(rt: &impl Print, tally: &Tally, came: Next, not_written: u64) {
     write_count(rt, "packets read", tally.read);
     write_count(
@@ -45,15 +21,18 @@ pub(crate) fn write(rt: &impl Print, tally: &Tally, came: Next, not_written: u64
 
 // A line for each refusal that occurred, in the order of the numbers.
 fn write_refusals(rt: &impl Print, replies: &[u64; 32]) {
-    for refusal in REFUSALS {
-        let number = refusal.number();
-        match replies.get(number as usize) {
-            None | Some(0) => {}
-            Some(count) => {
-                let _ = println!(rt; "refused {number} ({refusal}): {count}");
-            }
+    for (number, &count) in (3..32).zip(&replies[3..]) {
+        if count != 0 {
+            write_refusal(rt, number, count);
         }
     }
+}
+
+fn write_refusal(rt: &impl Print, number: u32, count: u64) {
+    let _ = match Refusal::try_from(number) {
+        Ok(refusal) => println!(rt; "refused {number} ({refusal}): {count}"),
+        Err(_) => println!(rt; "refused {number} (no reply of a receiver): {count}"),
+    };
 }
 
 fn write_count(rt: &impl Print, what: &str, count: u64) {

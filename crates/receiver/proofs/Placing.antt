@@ -25,7 +25,7 @@ module _ (r : Receiver) (s : Packet) where
   pub again_by : (area p : List ℕ) → is_again (picture_for r s) area p s ≡ (any (alike (fragment_of s)) (held_fragments (picture_for r s)) && same_contents area p s r.tables)
   again_by area p = by_picture r s (λ (v : Receiver). is_again v area p s ≡ (any (alike (fragment_of s)) (held_fragments v) && same_contents area p s r.tables)) refl refl
 
-module _ {r : Receiver} {p : List ℕ} {a : Arrival} (known : Known r p a) where
+module _ {r : Receiver} {a : Arrival} (known : Known r a) where
   pub picture_length : length (held_fragments (picture_for r a.said)) ≡ (picture_for r a.said).fragment_count
   picture_length =
       ap length (sym (picture_fragments r a.said))
@@ -41,7 +41,7 @@ module _ {r : Receiver} {p : List ℕ} {a : Arrival} (known : Known r p a) where
     pub same_held : q.same ≡ any (alike (fragment_of a.said)) (held_fragments (picture_for r a.said))
     same_held =
         ap (λ (x : Placed). x.same) placed_in
-        ∙ sym (near_alike (fragment_of a.said) (scan_some r.source p a.said known.read) (held_fragments (picture_for r a.said)) (picture_in_place r a.said known.formed).order)
+        ∙ sym (near_alike (fragment_of a.said) (scan_some r.source a.packet.now a.said known.read) (held_fragments (picture_for r a.said)) (picture_in_place r a.said known.formed).order)
 
     pub clash_told : near_clashes (fragment_of a.said) q.shares (picture_for r a.said).end q.at (picture_for r a.said).fragment_count ≡ clashes (fragment_of a.said) (held_fragments (picture_for r a.said))
     clash_told =
@@ -50,4 +50,4 @@ module _ {r : Receiver} {p : List ℕ} {a : Arrival} (known : Known r p a) where
         ap (near_clashes f q.shares (picture_for r a.said).end q.at) (sym picture_length)
         ∙ ap (λ (e : ℕ). near_clashes f q.shares e q.at (length fs)) (picture_end r a.said known.formed)
         ∙ ap (λ (x : Placed). near_clashes f x.shares (end_of fs) x.at (length fs)) placed_in
-        ∙ sym (clashes_are_near f fs (picture_in_place r a.said known.formed).order (scan_some r.source p a.said known.read))
+        ∙ sym (clashes_are_near f fs (picture_in_place r a.said known.formed).order (scan_some r.source a.packet.now a.said known.read))

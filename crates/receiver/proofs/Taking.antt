@@ -70,28 +70,28 @@ known_made q false [] source right known = absurd (never_both refl known)
 known_made q false (x ∷ l) source right known = absurd (never_both (and_true (is_zero x) (all is_zero l) right).0 known)
 
 -- the tables that a first packet would make are the receiver's, where it has those of the same Q
-pub tables_made : {r : Receiver} {p : List ℕ} {a : Arrival} → Known r p a → a.said.offset ≡ 0 → (is_made (table_source a.said.header.q) && eqb r.q a.said.header.q && not (is_zero (get_or r.tables 0 0))) ≡ true → r.tables ≡ tables_after (picture_for r a.said).tables (picture_for r a.said).kept p a.said
+pub tables_made : {r : Receiver} {a : Arrival} → Known r a → a.said.offset ≡ 0 → (is_made (table_source a.said.header.q) && eqb r.q a.said.header.q && not (is_zero (get_or r.tables 0 0))) ≡ true → r.tables ≡ tables_after (picture_for r a.said).tables (picture_for r a.said).kept a.packet.now a.said
 unfolding given
-tables_made {r} {p} {a} known first held =
+tables_made {r} {a} known first held =
     let q = a.said.header.q in
     let t = and_true (is_made (table_source q) && eqb r.q q) (not (is_zero (get_or r.tables 0 0))) held in
     let u = and_true (is_made (table_source q)) (eqb r.q q) t.0 in
     let between = made_between q u.0 in
     let source = made_to_99 q between.0 between.1 in
     let right = rw (eqb-true r.q q u.1) at (known_well_formed r known.formed).tables in
-    known_made q _ r.tables source right (not-true (is_zero (get_or r.tables 0 0)) t.1) ∙ rw source at (tables_first r p a.said first)
+    known_made q _ r.tables source right (not-true (is_zero (get_or r.tables 0 0)) t.1) ∙ rw source at (tables_first r a.packet.now a.said first)
 
 -- the tables as they are set, by all of these cases
-pub tables_set : {r : Receiver} {p : List ℕ} {a : Arrival} {begun : Bool} → Known r p a → begun ≡ starts r a.said →
-    cond (eqb a.said.offset 0) (cond (is_made (table_source a.said.header.q) && eqb r.q a.said.header.q && not (eqb (get_or r.tables 0 0) 0)) r.tables (given r.kept p a.said)) (cond begun blank r.tables) ≡ tables_after (picture_for r a.said).tables (picture_for r a.said).kept p a.said
-tables_set {r} {p} {a} known b =
+pub tables_set : {r : Receiver} {a : Arrival} {begun : Bool} → Known r a → begun ≡ starts r a.said →
+    cond (eqb a.said.offset 0) (cond (is_made (table_source a.said.header.q) && eqb r.q a.said.header.q && not (eqb (get_or r.tables 0 0) 0)) r.tables (given r.kept a.packet.now a.said)) (cond begun blank r.tables) ≡ tables_after (picture_for r a.said).tables (picture_for r a.said).kept a.packet.now a.said
+tables_set {r} {a} known b =
     split (eqb a.said.offset 0)
     (λ e. split (is_made (table_source a.said.header.q) && eqb r.q a.said.header.q && not (eqb (get_or r.tables 0 0) 0))
     (λ m. rw (e, m) (tables_made known (eqb-true a.said.offset 0 e) m))
-    (λ m. rw (e, m) (tables_first r p a.said (eqb-true a.said.offset 0 e))))
+    (λ m. rw (e, m) (tables_first r a.packet.now a.said (eqb-true a.said.offset 0 e))))
     (λ e. split (starts r a.said)
-    (λ n. rw (e, b, n) (tables_begun r p a.said (eqb-false a.said.offset 0 e) n))
-    (λ n. rw (e, b, n) (tables_stay r p a.said (eqb-false a.said.offset 0 e) n)))
+    (λ n. rw (e, b, n) (tables_begun r a.packet.now a.said (eqb-false a.said.offset 0 e) n))
+    (λ n. rw (e, b, n) (tables_stay r a.packet.now a.said (eqb-false a.said.offset 0 e) n)))
 
 -- the next receiver but for the store, put together of the picture's numbers and of its new parts
 pub put_together : (r : Receiver) (p : List ℕ) (s : Packet) {x : Numbers} {end told count : ℕ} {fragments : List Fragment}
@@ -116,7 +116,7 @@ pub put_together : (r : Receiver) (p : List ℕ) (s : Packet) {x : Numbers} {end
     } ≡ holding v fs after r.kept
 put_together r p s same e w n f tables t = rw same (cc (picture_source r s, picture_room r s))
 
-module _ {r : Receiver} {p : List ℕ} {a : Arrival} (known : Known r p a) (accepted : Accepted (picture_for r a.said) a.said) where
+module _ {r : Receiver} {a : Arrival} (known : Known r a) (accepted : Accepted (picture_for r a.said) a.said) where
   pub ends_inside : stop (fragment_of a.said) ≤ 65536
   ends_inside = omega (arith, accepted.fits, picture_room r a.said, (known_well_formed r known.formed).room)
 
@@ -150,8 +150,8 @@ module _ {r : Receiver} {p : List ℕ} {a : Arrival} (known : Known r p a) (acce
       omega (arith, (known_well_formed r known.formed).room, total_within 0 r.room (held_fragments (picture_for r a.said)) placed.order placed.inside (omega arith))
 
   -- the scan data fits where it goes
-  pub written : (area : List ℕ) {after bytes : List ℕ} → length area ≡ r.room → bytes ≡ scan_in p a.said → after ≡ put_at area a.said.offset bytes → after ≡ put area a.said.offset (scan_in p a.said)
-  written area lent e w = w ∙ rw e (put_fits area a.said.offset (scan_in p a.said) (omega (arith, scan_long r.source p a.said known.read, accepted.fits, picture_room r a.said)))
+  pub written : (area : List ℕ) {after bytes : List ℕ} → length area ≡ r.room → bytes ≡ scan_in a.packet.now a.said → after ≡ put_at area a.said.offset bytes → after ≡ put area a.said.offset (scan_in a.packet.now a.said)
+  written area lent e w = w ∙ rw e (put_fits area a.said.offset (scan_in a.packet.now a.said) (omega (arith, scan_long r.source a.packet.now a.said known.read, accepted.fits, picture_room r a.said)))
 
 -- a reply, a count and a receiver that are the same
 pub same_answer : {reply reply' n n' : ℕ} {r r' : Receiver} → reply ≡ reply' → n ≡ n' → r ≡ r' → answering reply n r ≡ answering reply' n' r'

@@ -31,12 +31,12 @@ numbers begun r = record {
   reach = reach (held_fragments r);
 }
 
--- The receiver is well formed, its array has 64 places, the packet p says what arrives, and the numbers are those of the picture that it
--- is for.
-pub record Known (r : Receiver) (p : List ℕ) (a : Arrival) : Type 0 where
+-- The receiver is well formed, its array has 64 places, the packet says what arrives, and the numbers are those of the picture that it is
+-- for.
+pub record Known (r : Receiver) (a : Arrival) : Type 0 where
   pub formed : well_formed r ≡ true
   pub long : length r.fragments ≡ 64
-  pub read : reading r.source p ≡ Ok a.said
+  pub read : reading r.source a.packet.now ≡ Ok a.said
   pub picture : a.picture ≡ numbers (starts r a.said) (picture_for r a.said)
 
 -- The place at which a packet's fragment goes among those of its picture.
@@ -44,8 +44,8 @@ abbrev pub its_place : Receiver → Packet → ℕ
 its_place r s = place (fragment_of s) (held_fragments (picture_for r s))
 
 -- What arrives is accepted, too, and its fragment goes to place `at`.
-pub record Admitted (r : Receiver) (p : List ℕ) (a : Arrival) (at : ℕ) : Type 0 where
-  pub known : Known r p a
+pub record Admitted (r : Receiver) (a : Arrival) (at : ℕ) : Type 0 where
+  pub known : Known r a
   pub accepted : Accepted (picture_for r a.said) a.said
   pub place : at ≡ its_place r a.said
 
@@ -57,7 +57,7 @@ ruled_at (Err why) at = Err why
 abbrev pub placed_by : Receiver → Packet → Judged → Result ℕ Refusal
 placed_by r s j = ruled_at j (its_place r s)
 
--- The outcome of `decide`: the refusal that the call answers, or what it accepts, with the area as long as the room.
+-- The outcome of `decide`: the refusal that the call answers, or what it accepts of this packet, with the area as long as the room.
 abbrev pub Decides : Receiver → List ℕ → List ℕ → Result (Arrival × ℕ) Refusal → Type 0
 Decides r area p (Err why) = decision r area p ≡ leave (number why)
-Decides r area p (Ok a) = (decision r area p ≡ accept a.0.said) × (length area ≡ r.room) × Admitted r p a.0 a.1
+Decides r area p (Ok a) = (decision r area p ≡ accept a.0.said) × (length area ≡ r.room) × (a.0.packet.now ≡ p) × Admitted r a.0 a.1

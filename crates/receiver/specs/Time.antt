@@ -1,8 +1,9 @@
 -- Which of two time stamps is the newer. Assumes nothing.
-use Rattle.std.specs.Prelude.{◌≡◌, ℕ, ◌+◌, ◌-◌, ◌%◌, ◌^◌, ◌<◌, ◌≤◌, Bool, true, false, ◌==◌, ◌≢◌, nat_le}
+use Rattle.std.specs.Prelude.{◌≡◌, ℕ, ◌+◌, ◌-◌, ◌%◌, ◌^◌, ◌<◌, ◌≤◌, Bool, true, false, ◌==◌, ◌≢◌, nat_le, nat_lt}
 use native.Mathlib.Omega.{arith}
-use Rattle.std.proofs.Common.{leb-false, eqb-true}
+use Rattle.std.proofs.Common.{leb-false, le-leb, eqb-true}
 use Rattle.std.proofs.lemmas.Bool.{lt-leb, eqb-false}
+use Rattle.std.proofs.Math.Dec.{leb-suc-suc}
 use Rattle.laws.specs.Truth.{split, never_both}
 use Rattle.laws.specs.Within.{within, is_within, is_under}
 
@@ -21,10 +22,20 @@ is_behind t h = nat_le (2 ^ 31) (ahead t h)
 -- ---- laws
 
 module _ (t h : ℕ) (small : h < 2 ^ 32) where
+  -- a number that, with h, comes to t
+  pub ahead_by : (d : ℕ) → d < 2 ^ 32 → (d + h) % 2 ^ 32 ≡ t → d ≡ ahead t h
+  unfolding ahead
+  ahead_by d less e = omega arith
+
   -- as 32 bits wrap it
   pub ahead_wraps : (t + (2 ^ 32 - h)) % 2 ^ 32 ≡ ahead t h
   unfolding ahead
   ahead_wraps = omega arith
+
+-- from 1 on, a difference is that of a newer time stamp where it is less than 2^31
+pub newer_from_1 : (d : ℕ) → 1 ≤ d → nat_lt d (2 ^ 31) ≡ within 1 (2 ^ 31 - 1) d
+unfolding within
+newer_from_1 d h = rw (le-leb 1 d h) (leb-suc-suc d (2 ^ 31 - 1))
 
 module _ (t : ℕ) where
   ahead_none : ahead t t ≡ 0

@@ -19,28 +19,20 @@ use crate::judge::{Arrival, fragment_of};
 use fragments::Fragment;
 use kept::Kept;
 use state::Receiver;
-use wire::Packet;
 
 // Puts the packet's fragment at its place in the picture, which then has `held` scan bytes, and sets the tables that the packet gives it.
-pub(crate) fn take(receiver: &mut Receiver, arrival: Arrival, packet: &[u8], at: usize, held: u32)
-    requires admitted { Admitted receiver.old packet.now arrival at }
+pub(crate) fn take(receiver: &mut Receiver, arrival: Arrival, at: usize, held: u32)
+    requires admitted { Admitted receiver.old arrival at }
     requires held_with_it { held ≡ total (held_fragments (picture_for receiver.old arrival.said)) + arrival.said.scan.length }
-    ensures { receiver.new ≡ Step.taken (picture_for receiver.old arrival.said) packet.now arrival.said }
+    ensures { receiver.new ≡ Step.taken (picture_for receiver.old arrival.entry.said) arrival.entry.packet.now arrival.entry.said }
 {
-    let Arrival { said, picture } = arrival;
+    let Arrival { said, picture, .. } = arrival;
     let f = fragment_of(said);
     let count = picture.count + 1;
     let end = end_with(picture.end, f);
     set_fragments(&mut receiver.fragments, picture.begun, picture.count, at, f);
-    set_tables(
-        &mut receiver.tables,
-        &receiver.kept,
-        receiver.q,
-        picture.begun,
-        packet,
-        said,
-    );
-    set_kept(&mut receiver.kept, packet, said);
+    set_tables(&mut receiver.tables, &receiver.kept, receiver.q, arrival);
+    set_kept(&mut receiver.kept, arrival);
     receiver.picture = 1;
     receiver.time = picture.time;
     receiver.kind = picture.header.kind;
@@ -55,27 +47,28 @@ pub(crate) fn take(receiver: &mut Receiver, arrival: Arrival, packet: &[u8], at:
 
 // The picture's tables: those that a first packet gives, where they are not there already; none where it begins; else as they were.
 #[tactic(auto, unfolding(kept::specs::Kept::blank))]
-fn set_tables(tables: &mut [u8; 128], kept: &Kept, q: u32, begun: bool, packet: &[u8], said: Packet)
-    ensures { tables.new ≡ (if nat_eq said.offset 0
-        then (if is_made (table_source said.header.q) && q == said.header.q && not (slice_index tables.old 0 == 0) then tables.old else First.given kept.now packet.now said)
-        else (if begun then blank else tables.old)) }
+fn set_tables(tables: &mut [u8; 128], kept: &Kept, q: u32, arrival: Arrival)
+    ensures { tables.new ≡ (if nat_eq arrival.entry.said.offset 0
+        then (if is_made (table_source arrival.entry.said.header.q) && q == arrival.entry.said.header.q && not (slice_index tables.old 0 == 0) then tables.old else First.given kept.now arrival.entry.packet.now arrival.entry.said)
+        else (if arrival.entry.picture.begun then blank else tables.old)) }
 {
-    if said.offset == 0 {
-        if !are_made(q, tables, said.header.q) {
-            *tables = given(kept, packet, said);
+    if arrival.said.offset == 0 {
+        if !are_made(q, tables, arrival.said.header.q) {
+            *tables = given(kept, arrival);
         }
-    } else if begun {
+    } else if arrival.picture.begun {
         *tables = [0; 128];
     }
 }
 
 // The store: tables that come and are kept, and else as it was.
 #[tactic(auto, using(crate::proofs::Taking::store_kept, crate::proofs::Taking::store_stays))]
-fn set_kept(kept: &mut Kept, packet: &[u8], said: Packet)
-    ensures { kept.new ≡ First.kept_after kept.old packet.now said }
+fn set_kept(kept: &mut Kept, arrival: Arrival)
+    ensures { kept.new ≡ First.kept_after kept.old arrival.entry.packet.now arrival.entry.said }
 {
+    let said = arrival.said;
     if keeps(said) {
-        *kept = kept::keep(kept, said.header.q, wire::tables(packet, said));
+        *kept = kept::keep(kept, said.header.q, wire::tables(arrival.packet, said));
     }
 }
 

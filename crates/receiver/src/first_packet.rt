@@ -7,6 +7,7 @@ ghost use Rattle.wire.specs.Reading.{tables_in};
 ghost use Rattle.wire.specs.TableSource.{is_made, table_source};
 ghost use Rattle.receiver.specs.FirstPacket as First;
 
+use crate::judge::Arrival;
 use kept::Kept;
 use wire::{Packet, TableSource};
 
@@ -23,13 +24,15 @@ pub(crate) fn is_bare(kept: &Kept, said: Packet) -> bool
 
 // The tables that a first packet gives its picture.
 #[tactic(auto, unfolding(crate::specs::FirstPacket::given))]
-pub(crate) fn given(kept: &Kept, packet: &[u8], said: Packet) -> [u8; 128]
-    ensures { result ≡ First.given kept.now packet.now said }
+pub(crate) fn given(kept: &Kept, arrival: Arrival) -> [u8; 128]
+    ensures { result ≡ First.given kept.now arrival.entry.packet.now arrival.entry.said }
 {
-    match wire::table_source(said.header.q) {
-        TableSource::Made => made(said.header.q),
-        TableSource::KeptOrBrought => brought_or_kept(kept, packet, said),
-        TableSource::AlwaysBrought | TableSource::Reserved => wire::tables(packet, said),
+    match wire::table_source(arrival.said.header.q) {
+        TableSource::Made => made(arrival.said.header.q),
+        TableSource::KeptOrBrought => brought_or_kept(kept, arrival),
+        TableSource::AlwaysBrought | TableSource::Reserved => {
+            wire::tables(arrival.packet, arrival.said)
+        }
     }
 }
 
@@ -44,13 +47,13 @@ fn made(q: u32) -> [u8; 128]
     tables
 }
 
-fn brought_or_kept(kept: &Kept, packet: &[u8], said: Packet) -> [u8; 128]
-    ensures { result ≡ (if First.brings said then tables_in packet.now said else find kept.now said.header.q) }
+fn brought_or_kept(kept: &Kept, arrival: Arrival) -> [u8; 128]
+    ensures { result ≡ (if First.brings arrival.entry.said then tables_in arrival.entry.packet.now arrival.entry.said else find kept.now arrival.entry.said.header.q) }
 {
-    if said.tables.length == 0 {
-        kept::find(kept, said.header.q)
+    if arrival.said.tables.length == 0 {
+        kept::find(kept, arrival.said.header.q)
     } else {
-        wire::tables(packet, said)
+        wire::tables(arrival.packet, arrival.said)
     }
 }
 

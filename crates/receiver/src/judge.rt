@@ -21,23 +21,19 @@ use replies::Refusal;
 use state::Receiver;
 use wire::Packet;
 
-// A packet that has been read, and the picture that it is for.
+// A packet, what it says, and the picture that it is for.
 #[derive(Clone, Copy)]
-pub(crate) struct Arrival {
+pub(crate) struct Arrival<'a> {
+    pub(crate) packet: &'a [u8],
     pub(crate) said: Packet,
     pub(crate) picture: Numbers,
 }
 
-impl Arrival {
+impl Arrival<'_> {
     // Why the packet changes nothing, or the place at which its fragment goes.
-    pub(crate) fn judge(
-        self,
-        receiver: &Receiver,
-        area: &[u8],
-        packet: &[u8],
-    ) -> Result<usize, Refusal>
-        requires { Known receiver.now packet.now self }
-        ensures { result ≡ placed_by receiver.now self.said (Spec.verdict receiver.now area.now packet.now self.said) }
+    pub(crate) fn judge(self, receiver: &Receiver, area: &[u8]) -> Result<usize, Refusal>
+        requires { Known receiver.now self }
+        ensures { result ≡ placed_by receiver.now self.entry.said (Spec.verdict receiver.now area.now self.entry.packet.now self.entry.said) }
     {
         if self.is_past() {
             return Err(Refusal::Past);
@@ -48,19 +44,19 @@ impl Arrival {
         if (receiver.room as u64) < self.said.offset as u64 + self.said.scan.length as u64 {
             return Err(Refusal::Beyond);
         }
-        self.judge_place(receiver, area, packet)
+        self.judge_place(receiver, area)
     }
 
     fn is_past(self) -> bool
-        ensures { result ≡ (is_behind self.said.time self.picture.time || self.picture.whole) }
+        ensures { result ≡ (is_behind self.entry.said.time self.entry.picture.time || self.entry.picture.whole) }
     {
         is_behind(self.said.time, self.picture.time) || self.picture.whole
     }
 
     // The checks against the fragments held, by where the packet's goes and what stands in front of it.
-    fn judge_place(self, receiver: &Receiver, area: &[u8], packet: &[u8]) -> Result<usize, Refusal>
-        requires { Known receiver.now packet.now self }
-        ensures { result ≡ placed_by receiver.now self.said (judged (Spec.place_checks (picture_for receiver.now self.said) area.now packet.now self.said)) }
+    fn judge_place(self, receiver: &Receiver, area: &[u8]) -> Result<usize, Refusal>
+        requires { Known receiver.now self }
+        ensures { result ≡ placed_by receiver.now self.entry.said (judged (Spec.place_checks (picture_for receiver.now self.entry.said) area.now self.entry.packet.now self.entry.said)) }
     {
         let f = fragment_of(self.said);
         let placed = place_of(
@@ -69,7 +65,7 @@ impl Arrival {
             self.picture.reach,
             f,
         );
-        if is_again(placed.same, &receiver.tables, area, packet, self.said) {
+        if self.is_again(placed.same, &receiver.tables, area) {
             return Err(Refusal::Again);
         }
         if clashes(f, placed, self.picture.end, self.picture.count) {
@@ -83,10 +79,33 @@ impl Arrival {
         }
         Ok(placed.at)
     }
+
+    // Whether it is an exact repeat: `alike` tells that its offset, length and marker are those of one held.
+    fn is_again(self, alike: bool, tables: &[u8; 128], area: &[u8]) -> bool
+        ensures { result ≡ (alike && Spec.same_contents area.now self.entry.packet.now self.entry.said tables.now) }
+    {
+        alike && self.has_bytes(area) && self.agrees(tables)
+    }
+
+    // Whether the bytes that it carries are those that the area has there.
+    fn has_bytes(self, area: &[u8]) -> bool
+        ensures { result ≡ same (bytes_of area.now (Spec.fragment_of self.entry.said)) (scan_in self.entry.packet.now self.entry.said) }
+    {
+        let held = slices::part(area, self.said.offset as usize, self.said.scan.length);
+        slices::are_same(held, wire::scan(self.packet, self.said))
+    }
+
+    // Whether any tables that it brings are those of the picture.
+    fn agrees(self, tables: &[u8; 128]) -> bool
+        ensures { result ≡ Spec.agrees self.entry.packet.now self.entry.said tables.now }
+    {
+        self.said.tables.length == 0
+            || slices::are_same(&wire::tables(self.packet, self.said), tables)
+    }
 }
 
 // Where a fragment goes among the first `count`. One that begins where the last of them ends, or later, goes behind them: then the array
-// is neither looked at nor copied, and so it is with packets that come in order.
+// is not looked at, and so it is with packets that come in order.
 #[tactic(auto, using(fragments::specs::Array::placed_behind))]
 fn place_of(fragments: &[Fragment; 64], count: u32, reach: u32, f: Fragment) -> Placed
     requires in_order { InOrder 0 (take count fragments.now) × (length (take count fragments.now) ≡ count) }
@@ -113,28 +132,6 @@ pub(crate) fn fragment_of(said: Packet) -> Fragment
         length: said.scan.length as u32,
         marker: said.marker,
     }
-}
-
-// Whether a packet is an exact repeat: `alike` tells that its offset, length and marker are those of one held.
-fn is_again(alike: bool, tables: &[u8; 128], area: &[u8], packet: &[u8], said: Packet) -> bool
-    ensures { result ≡ (alike && Spec.same_contents area.now packet.now said tables.now) }
-{
-    alike && has_bytes(area, packet, said) && agrees(tables, packet, said)
-}
-
-// Whether the bytes that a packet carries are those that the area has there.
-fn has_bytes(area: &[u8], packet: &[u8], said: Packet) -> bool
-    ensures { result ≡ same (bytes_of area.now (Spec.fragment_of said)) (scan_in packet.now said) }
-{
-    let held = slices::part(area, said.offset as usize, said.scan.length);
-    slices::are_same(held, wire::scan(packet, said))
-}
-
-// Whether any tables that a packet brings are those of the picture.
-fn agrees(tables: &[u8; 128], packet: &[u8], said: Packet) -> bool
-    ensures { result ≡ Spec.agrees packet.now said tables.now }
-{
-    said.tables.length == 0 || slices::are_same(&wire::tables(packet, said), tables)
 }
 
 // Whether a fragment contradicts those held, by what the one in front of its place, the end and the place tell. Where no byte is

@@ -1,5 +1,5 @@
 // The picture that a packet is for: the one held, or one that it begins.
-ghost use Rattle.std.specs.Prelude.{◌≡◌, ◌||◌, ◌==◌};
+ghost use Rattle.std.specs.Prelude.{◌≡◌, ◌||◌};
 ghost use Rattle.state.specs.WellFormed.{holding_of};
 ghost use Rattle.receiver.specs.Known.{numbers};
 ghost use Rattle.receiver.specs.Picture as Spec;
@@ -10,7 +10,8 @@ use state::{Holding, Receiver};
 use wire::{Header, Packet};
 
 // Its numbers, without its fragments and tables, which are long to hand on: the receiver's, or, where the packet begins it, the packet's
-// own with nothing held. An end of 0 is not known: it is the number that the receiver has and is given.
+// own with nothing held. `begun` stands beside them, and no Option or enum: they count in both cases. An end of 0 is not known: it is the
+// number that the receiver has and is given.
 #[derive(Clone, Copy)]
 pub(crate) struct Numbers {
     pub(crate) begun: bool,
@@ -28,7 +29,7 @@ pub(crate) fn picture_for(receiver: &Receiver, holding: Holding, said: Packet) -
     requires { holding ≡ holding_of receiver.now }
     ensures { result ≡ numbers (Spec.starts receiver.now said) (Spec.picture_for receiver.now said) }
 {
-    if starts(receiver.picture, receiver.time, said.time) {
+    if starts(receiver.picture == 0, receiver.time, said.time) {
         return Numbers {
             begun: true,
             time: said.time,
@@ -52,9 +53,9 @@ pub(crate) fn picture_for(receiver: &Receiver, holding: Holding, said: Packet) -
     }
 }
 
-// Whether a packet of a time stamp starts a picture, by the flag of the one held and its time stamp.
-fn starts(picture: u32, held: u32, time: u32) -> bool
-    ensures { result ≡ (picture == 0 || is_newer time held) }
+// Whether a packet of a time stamp starts a picture, by whether none is held, and by the time stamp of the one held.
+fn starts(none: bool, held: u32, time: u32) -> bool
+    ensures { result ≡ (none || is_newer time held) }
 {
-    picture == 0 || is_newer(time, held)
+    none || is_newer(time, held)
 }

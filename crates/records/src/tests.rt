@@ -38,20 +38,23 @@ fn input_of(most: usize, fails_at: Option<usize>, error: ErrorKind) -> Input {
     }
 }
 
-// What the next records come to, a letter for each: answered, cut, or the end.
+// What the next records come to, a letter for each: answered, cut, or the end. It is a capital where a read failed.
 fn letters(given: &mut Input) -> [u8; 5] {
     let mut receiver = state::open(1, 4).receiver;
     let mut area = [0u8; 4];
     let mut buffer = [0u8; LONGEST];
     let mut letters = [b'-'; 5];
     for letter in &mut letters {
-        let taken = take_next(given, receiver, &mut area, &mut buffer);
+        let (taken, read) = take_next(given, receiver, &mut area, &mut buffer);
         receiver = taken.receiver;
         *letter = match taken.came {
             Next::Answered(_) => b'a',
             Next::Cut => b'c',
             Next::End => b'e',
         };
+        if read.is_err() {
+            letter.make_ascii_uppercase();
+        }
     }
     letters
 }
@@ -75,12 +78,21 @@ fn a_read_that_fails_is_an_end(rt: HostRuntime) {
     for error in [ErrorKind::Other, ErrorKind::Interrupted] {
         // Between two records, in a length, and in a packet.
         let between = letters(&mut input_of(LONGEST, Some(5), error));
-        assert_eq!(rt; between, *b"aeaae");
+        assert_eq!(rt; between, *b"aEaae");
         let in_length = letters(&mut input_of(LONGEST, Some(8), error));
-        assert_eq!(rt; in_length[..3], b"aac"[..]);
+        assert_eq!(rt; in_length[..3], b"aaC"[..]);
         let in_packet = letters(&mut input_of(LONGEST, Some(3), error));
-        assert_eq!(rt; in_packet[..1], b"c"[..]);
+        assert_eq!(rt; in_packet[..1], b"C"[..]);
     }
+}
+
+// The error is the input's own.
+#[test]
+fn a_read_that_fails_is_told(rt: HostRuntime) {
+    let mut given = input_of(LONGEST, Some(3), ErrorKind::Interrupted);
+    let receiver = state::open(1, 4).receiver;
+    let (_, read) = take_next(&mut given, receiver, &mut [0u8; 4], &mut [0u8; LONGEST]);
+    assert!(rt; read.is_err_and(|error| error.kind() == ErrorKind::Interrupted));
 }
 
 #[test]

@@ -1,9 +1,10 @@
 -- What each refusal is answered as: its number. Assumes nothing.
-use Rattle.std.specs.Prelude.{ℕ, ◌≡◌, refl, eqb, cond, false}
+use Rattle.std.specs.Prelude.{ℕ, ◌≡◌, refl, eqb, cond, false, Result, MatchResult}
 use Rattle.std.proofs.Common.{sym, ap, ◌∙◌}
 use Rattle.replies.specs.Reply
 use Rattle.replies.specs.declared.Refusal.{Refusal}
 use Rattle.replies.specs.declared.Refusal.TheVariants
+use Rattle.replies.specs.declared.NoRefusal.{NoRefusal}
 
 abbrev pub number : Refusal → ℕ
 number TheVariants.Again = Reply.again
@@ -43,6 +44,10 @@ number TheVariants.PacketOutput = Reply.packet_output
 -- The outcome of `Refusal::number`.
 abbrev pub HasNumber : Refusal → ℕ → Type 0
 HasNumber r n = n ≡ number r
+
+-- The outcome of `Refusal::try_from`: the refusal that has this number, or an error where none has it.
+abbrev pub Decodes : ℕ → Result Refusal NoRefusal → Type 0
+Decodes n outcome = MatchResult outcome (λ r. number r ≡ n) (λ e. (e.0 ≡ n) × ((r : Refusal) → number r ≡ n → ⊥))
 
 -- ---- laws
 

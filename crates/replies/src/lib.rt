@@ -3,12 +3,12 @@
 
 ghost use Rattle.std.specs.Prelude.{◌≡◌};
 ghost use Rattle.replies.specs.Output.{IsRefusal, IsSuccess, written};
-ghost use Rattle.replies.specs.Refusal.{HasNumber};
+ghost use Rattle.replies.specs.Refusal.{Decodes, HasNumber};
 
 use std::error::Error;
 use std::fmt;
 
-// specs/Reply.antt says what each number means, under the same name.
+// Numbers, since they stand in fields of C's structs; specs/Reply.antt says what each means, under the same name.
 pub const SUCCESS: u32 = 0;
 
 pub const HELD: u32 = 0;
@@ -19,71 +19,45 @@ pub const WHOLE: u32 = 1;
 // answered.
 #[derive(Clone, Copy, Debug, PartialEq, Eq)]
 pub enum Refusal {
-    // An exact repeat of a packet that is held.
     Again = 2,
-    // The room is not 1 to 65,536 bytes.
     RoomOutside = 7,
-    // The area is not as long as the room.
     AreaNotRoom = 8,
-    // The receiver is not well formed.
     NotWellFormed = 9,
-    // The packet is short, or wrongly padded.
     TooShort = 10,
-    // The packet is longer than 2,048 bytes.
     TooLong = 11,
-    // The RTP version is not 2.
     OtherVersion = 12,
     // The payload type is not JPEG's, 26.
     OtherPayload = 13,
-    // The packet is of another source.
     OtherSource = 14,
     // The type is not 0, 1, 64 or 65.
     OtherType = 15,
-    // The type-specific byte is not 0.
     OtherTypeSpecific = 16,
     // Q is 0, or 100 to 127.
     QReserved = 17,
-    // The width or the height is 0.
     SideZero = 18,
-    // The restart interval is 0.
     IntervalZero = 19,
-    // The packet's tables break a rule.
     TableRule = 20,
-    // The packet has no scan data.
     NoScan = 21,
     // The packet is older than the picture held, 2^31 away from it, or of a picture that is whole.
     Past = 22,
     // Type, Q, width, height or interval is unlike the picture's.
     Unlike = 23,
-    // The data would end beyond the room.
     Beyond = 24,
-    // The data contradicts what is held.
     Clash = 25,
-    // 64 fragments are held.
     Full = 26,
     // The packet brings no tables, and none are kept for its Q.
     Bare = 27,
-    // The picture is not whole.
     NotWhole = 30,
-    // The output is shorter than the file.
     FileOutput = 31,
     // No tables are made for this Q: it is not 1 to 99.
     QNotMade = 34,
-    // The output is shorter than 128 bytes.
     TablesOutput = 35,
-    // Type, Q, width, height or interval is none that can be sent.
     Parameters = 40,
-    // The scan is empty, or longer than 65,536 bytes.
     ScanLength = 41,
-    // The packet size is not 192 to 1,472.
     PacketSize = 42,
-    // The tables are not those that this Q is sent with.
     SentTables = 43,
-    // The picture takes more than 64 packets.
     Over64Packets = 44,
-    // The picture has no packet of this index.
     IndexTooLarge = 45,
-    // The output is shorter than the packet.
     PacketOutput = 46,
 }
 
@@ -93,6 +67,55 @@ impl Refusal {
         ensures { HasNumber self result }
     {
         self as u32
+    }
+}
+
+// A number that no refusal has.
+#[derive(Clone, Copy, Debug, PartialEq, Eq)]
+pub struct NoRefusal(pub u32);
+
+impl TryFrom<u32> for Refusal {
+    type Error = NoRefusal;
+
+    ghost try_from_gives = { Decodes };
+
+    fn try_from(number: u32) -> Result<Self, NoRefusal> {
+        match number {
+            2 => Ok(Refusal::Again),
+            7 => Ok(Refusal::RoomOutside),
+            8 => Ok(Refusal::AreaNotRoom),
+            9 => Ok(Refusal::NotWellFormed),
+            10 => Ok(Refusal::TooShort),
+            11 => Ok(Refusal::TooLong),
+            12 => Ok(Refusal::OtherVersion),
+            13 => Ok(Refusal::OtherPayload),
+            14 => Ok(Refusal::OtherSource),
+            15 => Ok(Refusal::OtherType),
+            16 => Ok(Refusal::OtherTypeSpecific),
+            17 => Ok(Refusal::QReserved),
+            18 => Ok(Refusal::SideZero),
+            19 => Ok(Refusal::IntervalZero),
+            20 => Ok(Refusal::TableRule),
+            21 => Ok(Refusal::NoScan),
+            22 => Ok(Refusal::Past),
+            23 => Ok(Refusal::Unlike),
+            24 => Ok(Refusal::Beyond),
+            25 => Ok(Refusal::Clash),
+            26 => Ok(Refusal::Full),
+            27 => Ok(Refusal::Bare),
+            30 => Ok(Refusal::NotWhole),
+            31 => Ok(Refusal::FileOutput),
+            34 => Ok(Refusal::QNotMade),
+            35 => Ok(Refusal::TablesOutput),
+            40 => Ok(Refusal::Parameters),
+            41 => Ok(Refusal::ScanLength),
+            42 => Ok(Refusal::PacketSize),
+            43 => Ok(Refusal::SentTables),
+            44 => Ok(Refusal::Over64Packets),
+            45 => Ok(Refusal::IndexTooLarge),
+            46 => Ok(Refusal::PacketOutput),
+            _ => Err(NoRefusal(number)),
+        }
     }
 }
 
@@ -137,6 +160,14 @@ impl fmt::Display for Refusal {
 }
 
 impl Error for Refusal {}
+
+impl fmt::Display for NoRefusal {
+    fn fmt<W: fmt::Write>(&self, f: &mut fmt::Formatter<W>) -> fmt::Result {
+        write!(f, "no refusal has the number {}", self.0)
+    }
+}
+
+impl Error for NoRefusal {}
 
 // What table making, the sender and the builder answer C: a reply, and the length written.
 #[repr(C)]

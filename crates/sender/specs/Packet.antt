@@ -1,14 +1,16 @@
 -- The packet that carries a fragment of a picture's scan: RFC 3550 section 5.1 and RFC 2435 section 3.1, whose diagrams stand with
 -- the reader's definitions. Assumes nothing.
-use Rattle.std.specs.Prelude.{◌≡◌, ℕ, ◌+◌, ◌*◌, ◌%◌, ◌^◌, ◌≤◌, cond, List, [], ◌∷◌, ◌++◌, length, ◌≢◌}
+use Rattle.std.specs.Prelude.{◌≡◌, ℕ, ◌+◌, ◌*◌, ◌%◌, ◌^◌, ◌≤◌, true, false, cond, List, [], ◌∷◌, ◌++◌, length, ◌≢◌}
 use Rattle.std.proofs.Common.{arith, ne_eqb}
 use Rattle.std.proofs.Math.ListN.{length-append}
 use Rattle.fragments.specs.Fragments.{stop, bytes_of, length_bytes_of}
 use Rattle.fragments.specs.declared.Fragment.{Fragment}
+use Rattle.laws.specs.Lists.{empty}
 use Rattle.laws.specs.Spelled.{spelled}
 use Rattle.laws.specs.Truth.{split}
 use Rattle.wire.specs.Kind.{restarts_of, are_present}
 use Rattle.wire.specs.Rtp.{fixed_end}
+use Rattle.wire.specs.TableSource.{table_source, is_in_band}
 use Rattle.wire.specs.Tables.{table_header_due}
 use Rattle.wire.specs.declared.Header.{Header}
 use Rattle.sender.specs.Picture.{Picture}
@@ -53,13 +55,38 @@ packet s p k c = rtp_header s k c.marker ++ (jpeg_headers p.header p.tables c.of
 -- ---- laws
 
 module _ (h : Header) (word : ℕ) where
-  -- at most 4 bytes
+  pub restart_present : are_present (restarts_of h.kind) ≡ true → restart_header h word ≡ spelled 2 h.interval ++ spelled 2 word
+  unfolding restart_header
+  restart_present e = rw e
+
+  -- when it is empty, for which types it is not, and at most 4 bytes
+  pub restart_none : length (restart_header h word) ≡ 0 → restart_header h word ≡ []
+  restart_none e = empty (restart_header h word) e
+
+  pub restart_some : (length (restart_header h word) ≢ 0) → are_present (restarts_of h.kind) ≡ true
+  unfolding restart_header
+  restart_some n = split (are_present (restarts_of h.kind)) (λ e. e) (λ e. absurd (n (rw e)))
+
   pub restart_small : length (restart_header h word) ≤ 4
   unfolding restart_header spelled
   restart_small = split (are_present (restarts_of h.kind)) (λ e. rw e (omega arith)) (λ e. rw e (omega arith))
 
 module _ (h : Header) (tables : List ℕ) where
-  -- none behind the first packet, and at most 4 bytes beside the tables
+  pub tables_due : is_in_band (table_source h.q) ≡ true → table_header h tables 0 ≡ 0 ∷ 0 ∷ (spelled 2 (length tables) ++ tables)
+  unfolding table_header
+  tables_due e = rw e
+
+  pub tables_made : is_in_band (table_source h.q) ≡ false → table_header h tables 0 ≡ []
+  unfolding table_header
+  tables_made e = rw e
+
+  -- when it is empty, for which Q it is not, none behind the first packet, and at most 4 bytes beside the tables
+  pub tables_none : length (table_header h tables 0) ≡ 0 → table_header h tables 0 ≡ []
+  tables_none e = empty (table_header h tables 0) e
+
+  pub tables_some : (length (table_header h tables 0) ≢ 0) → is_in_band (table_source h.q) ≡ true
+  tables_some n = split (is_in_band (table_source h.q)) (λ e. e) (λ e. absurd (n (rw (tables_made e))))
+
   pub tables_past : (offset : ℕ) → (offset ≢ 0) → table_header h tables offset ≡ []
   unfolding table_header
   tables_past offset n = rw (ne_eqb offset 0 n)

@@ -30,6 +30,7 @@ fn copy_in_pieces(from: &[u8], to: &mut [u8])
     requires { length to.old ≡ length from.now }
     ensures { to.new ≡ from.now }
 {
+    // By the index: the prover knows nothing of `to` behind a loop over `chunks_mut`.
     let mut done = 0;
     while done < from.len() {
         let end = (done + PIECE).min(from.len());

@@ -1,5 +1,4 @@
-// The rules of a well-formed receiver. Every call asks for them: each loop, here and below, goes over all that it judges, with no early
-// way out.
+// The rules of a well-formed receiver. Every call asks for them.
 ghost use Rattle.std.specs.Prelude.{cond, ◌&&◌, List, ◌≡◌, leb, eqb};
 ghost use Rattle.fragments.specs.Array.{surveyed};
 ghost use Rattle.fragments.specs.declared.Fragment.{Fragment};
@@ -28,13 +27,7 @@ pub(crate) fn picture_right(picture: u32, time: u32, count: u32, header: Header)
 fn is_unset(time: u32, count: u32, header: Header) -> bool
     ensures { result ≡ Rule.is_unset time count header }
 {
-    time == 0
-        && count == 0
-        && header.kind == 0
-        && header.q == 0
-        && header.width == 0
-        && header.height == 0
-        && header.interval == 0
+    time == 0 && count == 0 && header == Header::default()
 }
 
 // Whether the fragments that a survey is of, and the places behind them, keep their rules.

@@ -36,7 +36,7 @@ pub struct Receiver {
     pub kept: Kept,
 }
 
-// What a receiver answers: a reply, and how many scan bytes it holds afterwards.
+// What a receiver answers: a reply, and how many scan bytes it holds afterwards. C's struct: a number, with 0 and 1 among the replies.
 #[repr(C)]
 #[derive(Clone, Copy)]
 pub struct Answer {

@@ -3,7 +3,7 @@
 
 mod standard;
 
-ghost use Rattle.std.specs.Prelude.{◌/◌, ◌≤◌, ◌<◌, ◌++◌, map, ◌≡◌, length, drop};
+ghost use Rattle.std.specs.Prelude.{◌/◌, ◌<◌, map, ◌≡◌, length};
 ghost use Rattle.laws.specs.Within.{Between};
 ghost use Rattle.replies.specs.Output.{Writes, written};
 ghost use Rattle.replies.specs.Output.Decision.{write};
@@ -32,17 +32,10 @@ fn write_scaled(scale: u32, out: &mut [u8]) -> Result<u32, Refusal>
     if out.len() < 128 {
         return Err(Refusal::TablesOutput);
     }
-    write_tables(scale as u16, out);
-    Ok(128)
-}
-
-fn write_tables(scale: u16, out: &mut [u8])
-    requires between { Between 1 5000 scale }
-    requires in_bounds { 128 ≤ length out.old }
-    ensures { out.new ≡ scaled scale ++ drop 128 out.old }
-{
+    let scale = scale as u16;
     write_table(&K1, scale, &mut out[..64]);
     write_table(&K2, scale, &mut out[64..128]);
+    Ok(128)
 }
 
 fn write_table(standard: &[u8; 64], scale: u16, out: &mut [u8])
@@ -52,6 +45,7 @@ fn write_table(standard: &[u8; 64], scale: u16, out: &mut [u8])
 {
     // What an entry v comes to is above 255 where v * scale is above 25,549, and so where v is above `most`.
     let most = 25_549 / scale;
+    // By the index: the prover knows nothing of `out` behind a loop over `iter_mut`.
     for (i, entry) in standard.iter().enumerate() {
         out[i] = made_entry(*entry, scale, most);
     }

@@ -97,7 +97,7 @@ fn insert(rt: &impl Print, line: &[u8]) -> Option<()> {
     write_fragments(rt, &after, from, count)
 }
 
-// By value: the prover knows how long an array is that is a parameter, and not one that is a field.
+// By value, as above.
 fn inserted(mut fragments: [Fragment; 64], count: u32, at: usize, f: Fragment) -> [Fragment; 64] {
     fragments::insert(&mut fragments, count, at, f);
     fragments

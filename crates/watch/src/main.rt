@@ -13,7 +13,8 @@ fn main(rt: HostRuntime) {
     let mut receiver = state::open(1, 32768).receiver;
     // A proved loop ends, and nothing says that the input does: no run comes to so many records.
     for count in 0..u64::MAX {
-        let taken = records::take_next(&mut input, receiver, &mut area, &mut buffer);
+        // A read that fails is an end like any other, as one that gives nothing.
+        let (taken, _) = records::take_next(&mut input, receiver, &mut area, &mut buffer);
         let Next::Answered(answer) = taken.came else {
             write_end(&rt, taken.came, count);
             break;

@@ -15,6 +15,7 @@ pub(crate) fn number_at<const N: usize>(s: &[u8], at: usize) -> u32
     ensures { result ≡ field s.now at N }
 {
     let mut number = 0;
+    // Over places and not over bytes: behind the end of the slice the number goes on with zeros.
     for i in 0..N {
         number = number * 256 + u32::from(byte_at(s, at + i));
     }

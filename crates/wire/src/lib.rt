@@ -20,8 +20,8 @@ use crate::table_header::{tables_at, tables_length};
 use replies::Refusal;
 
 // What the headers of every packet of a picture have in common: the type, Q, the sides in units of 8 pixels, and the restart
-// interval, 0 for types 0 and 1.
-#[derive(Clone, Copy, Debug, PartialEq, Eq)]
+// interval, 0 for types 0 and 1. They are plain numbers, since `is_lawful` and the sender take any and refuse by their answer.
+#[derive(Clone, Copy, Debug, PartialEq, Eq, Default)]
 pub struct Header {
     pub kind: u32,
     pub q: u32,
@@ -30,7 +30,8 @@ pub struct Header {
     pub interval: u32,
 }
 
-// A part of a packet: its place, and how many bytes it has. Tables that do not come have none.
+// A part of a packet: its place, and how many bytes it has. Tables that do not come have none: no `Option`, since `scan` and
+// `tables` take any `Packet`.
 #[derive(Clone, Copy, Debug, PartialEq, Eq)]
 pub struct Part {
     pub at: usize,
@@ -40,6 +41,7 @@ pub struct Part {
 // What a packet says, and where its tables and its scan data lie in it.
 #[derive(Clone, Copy, Debug, PartialEq, Eq)]
 pub struct Packet {
+    // A number, since `scan` and `tables` take any `Packet`.
     pub marker: u32,
     pub time: u32,
     pub offset: u32,

@@ -64,6 +64,7 @@ returns c =
     let v = passed (verdict a.receiver.now a.area.now a.packet.now s) c.in_ok-at.ensures in (
       judged_so a.receiver.now a.area.now a.packet.now w c.if-area-receiver.false c.in-Ok.ensures v.0,
       c.if-area-receiver.false,
+      refl,
       record {
         known = record {
           formed = w;

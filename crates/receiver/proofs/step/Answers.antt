@@ -5,18 +5,20 @@ use Rattle.state.specs.declared.Holding.{Holding}
 use Rattle.receiver.proofs.Stepping.{not_formed, leaves, accepts}
 use Rattle.receiver.proofs.step.Goals as goal
 
-pub returns-in_default : goal.returns-in_default
-returns-in_default c =
+pub returns-in-Err : goal.returns-in-Err
+returns-in-Err c =
     let a = c.args in
-    not_formed a.receiver.now a.area.now a.packet.now (not_inspected a.receiver.now (sym c.in_default.ensures.inspects)).0 (rw c.number.ensures)
+    let e = not_inspected a.receiver.now (sym c.in-Err.ensures.inspects) in
+    not_formed a.receiver.now a.area.now a.packet.now e.0 (rw (c.refused-in-Err.ensures, e.1))
 
 pub returns-in-Ok-decide : goal.returns-in-Ok-decide
 returns-in-Ok-decide c =
     let a = c.args in
-    accepts a.receiver.now a.area.now a.packet.now _ c.in-Ok-decide.ensures.0 c.accept.ensures.value c.accept.ensures.area_after
+    let d = c.in-Ok-decide.ensures in
+    accepts a.receiver.now a.area.now a.packet.now _ d.0 (rw d.2 at c.accept.ensures.value) (rw d.2 at c.accept.ensures.area_after)
 
-pub returns-in-Err : goal.returns-in-Err
-returns-in-Err c =
+pub returns-in-Err-decide : goal.returns-in-Err-decide
+returns-in-Err-decide c =
     let a = c.args in
     let w = holds_inspected a.receiver.now (sym c.in-Ok.ensures.inspects) in
-    leaves a.receiver.now a.area.now a.packet.now w.0 c.in-Err.ensures (ap (λ (h : Holding). h.held) w.1) (rw c.number-in-Err.ensures)
+    leaves a.receiver.now a.area.now a.packet.now w.0 c.in-Err-decide.ensures (ap (λ (h : Holding). h.held) w.1) (rw c.refused.ensures)

@@ -41,14 +41,14 @@ with_kept k x = record {
 }
 
 -- the next receiver but for its tables and the store, from what the parts of the code give
-next : {r : Receiver} {p : List ℕ} {a : Arrival} {f : Fragment} {end told at held : ℕ} {fragments : List Fragment} {kept : Kept}
-    → Admitted r p a at
+next : {r : Receiver} {a : Arrival} {f : Fragment} {end told at held : ℕ} {fragments : List Fragment} {kept : Kept}
+    → Admitted r a at
     → held ≡ total (held_fragments (picture_for r a.said)) + a.said.scan.length
     → f ≡ fragment_of a.said
     → end ≡ cond (is_marked f) (stop f) a.picture.end
     → told ≡ flag (reached end held)
     → fragments ≡ padded (insert_at at f (take a.picture.count (cond a.picture.begun no_fragments r.fragments)))
-    → (tables : List ℕ) → let v = picture_for r a.said in let after = tables_after v.tables v.kept p a.said in tables ≡ after → kept ≡ kept_after r.kept p a.said
+    → (tables : List ℕ) → let v = picture_for r a.said in let after = tables_after v.tables v.kept a.packet.now a.said in tables ≡ after → kept ≡ kept_after r.kept a.packet.now a.said
     → record {
       source = r.source;
       room = r.room;
@@ -65,9 +65,9 @@ next : {r : Receiver} {p : List ℕ} {a : Arrival} {f : Fragment} {end told at h
       fragments = fragments;
       tables = tables;
       kept = kept;
-    } ≡ taken (picture_for r a.said) p a.said
+    } ≡ taken (picture_for r a.said) a.packet.now a.said
 unfolding taken with_kept
-next {r} {p} {a} {f} {end} {told} {at} {held} {fragments} {kept} admitted sum part ends flags among tables t store =
+next {r} {a} {f} {end} {told} {at} {held} {fragments} {kept} admitted sum part ends flags among tables t store =
     let known = admitted.known in
     let accepted = admitted.accepted in
     let same = known.picture in
@@ -79,8 +79,8 @@ next {r} {p} {a} {f} {end} {told} {at} {held} {fragments} {kept} admitted sum pa
     let count_is : a.picture.count + 1 ≡ length fs = rw count (one_more known accepted) in
     let fragments_are : fragments ≡ padded fs = among ∙ rw (ap (λ (x : Numbers). x.begun) same, count, admitted.place, part) (put_among known accepted) in
     let v = picture_for r a.said in
-    ap (with_kept kept) (put_together r p a.said same end_is told_is count_is fragments_are tables t)
-    ∙ ap (λ (k : Kept). holding v fs (tables_after v.tables v.kept p a.said) k) (rw (picture_kept r a.said) store)
+    ap (with_kept kept) (put_together r a.packet.now a.said same end_is told_is count_is fragments_are tables t)
+    ∙ ap (λ (k : Kept). holding v fs (tables_after v.tables v.kept a.packet.now a.said) k) (rw (picture_kept r a.said) store)
 
 pub overflow_add-count : goal.overflow_add-count
 overflow_add-count c =

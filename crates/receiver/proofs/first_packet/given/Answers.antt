@@ -3,4 +3,4 @@ use Rattle.wire.specs.TableSource.{made_between}
 use Rattle.receiver.proofs.first_packet.given.Goals as goal
 
 pub made-requires : goal.made-requires
-made-requires c = made_between c.args.said.header.q (rw (← c.in-Made.ensures))
+made-requires c = made_between c.args.arrival.said.header.q (rw (← c.in-Made.ensures))

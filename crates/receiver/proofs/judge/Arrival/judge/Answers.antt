@@ -27,7 +27,7 @@ differ h g =
     ap not (and_assoc kind q (width && (height && interval)) ∙ and_assoc (kind && q) width (height && interval) ∙ and_assoc (kind && q && width) height interval)
 
 -- what the code asks of the picture's numbers, of the picture
-module _ {r : Receiver} {p : List ℕ} {a : Arrival} (known : Known r p a) where
+module _ {r : Receiver} {a : Arrival} (known : Known r a) where
   past : {b : Bool} → b ≡ (is_behind a.said.time a.picture.time || a.picture.whole) → is_past (picture_for r a.said) a.said ≡ b
   past e = sym (e ∙ rw (ap (λ (x : Numbers). x.time) known.picture, ap (λ (x : Numbers). x.whole) known.picture))
 
@@ -35,23 +35,23 @@ module _ {r : Receiver} {p : List ℕ} {a : Arrival} (known : Known r p a) where
   unlike e = sym (e ∙ differ a.picture.header a.said.header ∙ ap (λ (x : Numbers). is_unlike x.header a.said.header) known.picture)
 
   module _ (area : List ℕ) (in_time : false ≡ (is_behind a.said.time a.picture.time || a.picture.whole)) where
-    past_time : PastFirst 1 (checks (picture_for r a.said) area p a.said)
+    past_time : PastFirst 1 (checks (picture_for r a.said) area a.packet.now a.said)
     past_time = passes start (past in_time)
 
-    past_header : is_unlike (header_of (picture_for r a.said)) a.said.header ≡ false → PastFirst 2 (checks (picture_for r a.said) area p a.said)
+    past_header : is_unlike (header_of (picture_for r a.said)) a.said.header ≡ false → PastFirst 2 (checks (picture_for r a.said) area a.packet.now a.said)
     past_header like = passes past_time like
 
 pub returns-then-is_past : goal.returns-then-is_past
 returns-then-is_past c =
     let a = c.args in
-    rw (fails (start {checks = checks (picture_for a.receiver.now a.self.said) a.area.now a.packet.now a.self.said}) (past c.requires c.if-is_past.ensures))
+    rw (fails (start {checks = checks (picture_for a.receiver.now a.self.said) a.area.now a.self.packet.now a.self.said}) (past c.requires c.if-is_past.ensures))
 
 pub returns-then-ne : goal.returns-then-ne
 returns-then-ne c = rw (fails (past_time c.requires c.args.area.now c.if-is_past.ensures) (unlike c.requires c.if-ne.ensures))
 
 pub overflow_add-self : goal.overflow_add-self
 overflow_add-self c =
-    let short = scan_short c.args.receiver.now.source c.args.packet.now c.args.self.said c.requires.read in
+    let short = scan_short c.args.receiver.now.source c.args.self.packet.now c.args.self.said c.requires.read in
     omega arith
 
 pub returns-then-receiver-self : goal.returns-then-receiver-self

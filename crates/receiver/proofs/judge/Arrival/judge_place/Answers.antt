@@ -19,7 +19,7 @@ use Rattle.receiver.proofs.Placing.{again_by, picture_fragments, picture_length,
 use Rattle.receiver.proofs.judge.Arrival.judge_place.Goals as goal
 
 -- what the pass over the fragments tells, of the picture
-module _ {r : Receiver} {p : List ℕ} {a : Arrival} {f : Fragment} {q : Placed} (known : Known r p a) (part : f ≡ fragment_of a.said) (pass : q ≡ placed f (take a.picture.count r.fragments)) where
+module _ {r : Receiver} {a : Arrival} {f : Fragment} {q : Placed} (known : Known r a) (part : f ≡ fragment_of a.said) (pass : q ≡ placed f (take a.picture.count r.fragments)) where
   counted : a.picture.count ≡ (picture_for r a.said).fragment_count
   counted = ap (λ (x : Numbers). x.count) known.picture
 
@@ -36,22 +36,22 @@ module _ {r : Receiver} {p : List ℕ} {a : Arrival} {f : Fragment} {q : Placed}
   few h = omega (arith, counted, picture_length known)
 
   module _ (area : List ℕ) where
-    again : {b : Bool} → b ≡ (q.same && same_contents area p a.said r.tables) → is_again (picture_for r a.said) area p a.said ≡ b
-    again e = sym (e ∙ rw (same_held known told) (sym (again_by r a.said area p)))
+    again : {b : Bool} → b ≡ (q.same && same_contents area a.packet.now a.said r.tables) → is_again (picture_for r a.said) area a.packet.now a.said ≡ b
+    again e = sym (e ∙ rw (same_held known told) (sym (again_by r a.said area a.packet.now)))
 
-    module _ (other : false ≡ (q.same && same_contents area p a.said r.tables)) where
-      past_again : PastFirst 1 (place_checks (picture_for r a.said) area p a.said)
+    module _ (other : false ≡ (q.same && same_contents area a.packet.now a.said r.tables)) where
+      past_again : PastFirst 1 (place_checks (picture_for r a.said) area a.packet.now a.said)
       past_again = passes start (again other)
 
       module _ (agrees : false ≡ near_clashes f q.shares a.picture.end q.at a.picture.count) where
-        past_clash : PastFirst 2 (place_checks (picture_for r a.said) area p a.said)
+        past_clash : PastFirst 2 (place_checks (picture_for r a.said) area a.packet.now a.said)
         past_clash = passes past_again (clashed agrees)
 
-        past_full : a.picture.count < 64 → PastFirst 3 (place_checks (picture_for r a.said) area p a.said)
+        past_full : a.picture.count < 64 → PastFirst 3 (place_checks (picture_for r a.said) area a.packet.now a.said)
         past_full h = passes past_clash (lt-leb 64 _ (few h))
 
 pub fragment_of-f-requires : goal.fragment_of-f-requires
-fragment_of-f-requires c = let short = scan_short c.args.receiver.now.source c.args.packet.now c.args.self.said c.requires.read in omega arith
+fragment_of-f-requires c = let short = scan_short c.args.receiver.now.source c.args.self.packet.now c.args.self.said c.requires.read in omega arith
 
 pub place_of-placed-requires-clause-in_order : goal.place_of-placed-requires-clause-in_order
 place_of-placed-requires-clause-in_order c =
@@ -65,12 +65,12 @@ place_of-placed-requires-clause-reach_of_these c =
     let a = c.args in
     let count : a.self.picture.count ≡ (picture_for a.receiver.now a.self.said).fragment_count = ap (λ (x : Numbers). x.count) c.requires.picture in
     let held : take a.self.picture.count a.receiver.now.fragments ≡ held_fragments (picture_for a.receiver.now a.self.said) = rw count (picture_fragments a.receiver.now a.self.said) in
-    (rw held (ap (λ (x : Numbers). x.reach) c.requires.picture), rw c.fragment_of-f.ensures (scan_some a.receiver.now.source a.packet.now a.self.said c.requires.read))
+    (rw held (ap (λ (x : Numbers). x.reach) c.requires.picture), rw c.fragment_of-f.ensures (scan_some a.receiver.now.source a.self.packet.now a.self.said c.requires.read))
 
 pub returns-then-is_again : goal.returns-then-is_again
 returns-then-is_again c =
     let a = c.args in
-    rw (fails (start {checks = place_checks (picture_for a.receiver.now a.self.said) a.area.now a.packet.now a.self.said})
+    rw (fails (start {checks = place_checks (picture_for a.receiver.now a.self.said) a.area.now a.self.packet.now a.self.said})
     (again c.requires c.fragment_of-f.ensures c.place_of-placed.ensures a.area.now c.if-is_again.ensures))
 
 pub returns-then-clashes : goal.returns-then-clashes
