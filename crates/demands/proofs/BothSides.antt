@@ -32,4 +32,6 @@ both_sides = record {
   half_way_less_1_starts = refl;
   half_way = refl;
   half_way_past = refl;
+  index_too_large_is_45 = refl;
+  past_is_22 = refl;
 }

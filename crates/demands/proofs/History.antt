@@ -2,7 +2,7 @@
 use Rattle.std.proofs.Common.{inl, inr, sym, ap, ap₂, ◌∙◌, arith, eqb-true}
 use Rattle.std.proofs.Math.Path.{fun_ext}
 use Rattle.std.proofs.lemmas.Bool.{eqb-false}
-use Rattle.std.specs.Prelude.{ℕ, ◌<◌, List, [], ◌∷◌, ◌++◌, ◌≡◌, refl, eqb, drop}
+use Rattle.std.specs.Prelude.{ℕ, ◌<◌, List, [], ◌∷◌, ◌++◌, ◌≡◌, refl, eqb, take, drop}
 use Rattle.laws.specs.Each.{Each, each_take, each_drop}
 use Rattle.laws.specs.Truth.{split}
 use Rattle.receiver.specs.Step.{Receives}
@@ -15,7 +15,7 @@ use Rattle.state.specs.Opening.{opens}
 use Rattle.state.specs.Receiver.{fresh}
 use Rattle.state.specs.declared.Answer.{Answer}
 use Rattle.wire.specs.Field.{Bytes}
-use Rattle.demands.specs.History.{State, state, Calls, Accepted, Outcome, outcome, after, answers, step, MeetsContract, packet_in, answer_in, CallsGoOn, RecordsAreCalls, RecordsAreOfBytes, ThereAreHistories}
+use Rattle.demands.specs.History.{State, state, Calls, Accepted, Outcome, outcome, after, answers, step, MeetsContract, packet_in, answer_in, CallsGoOn, RecordsAreCalls, NextRecordsAreCalls, RecordsAreOfBytes, ThereAreHistories}
 
 -- ---- laws
 
@@ -71,6 +71,9 @@ take_calls r area bytes t after met = rw (met.taken, met.lent) (go (front bytes)
     go Framing.Front.nothing = refl
     go Framing.Front.cut = refl
     go (Framing.Front.packet p) = step_calls (state r area) (p ∷ [])
+
+pub take_next_calls : NextRecordsAreCalls
+take_next_calls left r area before buffer t unfailed after left_after next = take_calls r area (take next.n buffer) t after next.takes
 
 pub packet_bytes : RecordsAreOfBytes
 packet_bytes bytes b = by_front bytes (λ (f : Front). Each Bytes (packet_in f)) tt tt (each_take (λ (v : ℕ). v < 256) (packet_length bytes) (drop 2 bytes) (each_drop (λ (v : ℕ). v < 256) 2 bytes b), tt)

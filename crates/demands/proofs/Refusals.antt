@@ -1,7 +1,7 @@
 -- A refusal has a number, gives back the receiver that it was handed, and changes no byte that it was lent; so does Again, which is no
 -- refusal. Assumes nothing.
 use Rattle.std.proofs.Common.{sym, ap, ap₂, ◌∙◌, ne_eqb}
-use Rattle.std.specs.Prelude.{ℕ, true, List, [], ◌∷◌, ◌≡◌, refl}
+use Rattle.std.specs.Prelude.{ℕ, true, List, [], ◌∷◌, ◌≡◌, refl, take}
 use Rattle.builder.specs.Building as Building
 use Rattle.builder.specs.Building.{Builds, building, file_of}
 use Rattle.fragments.specs.Fragments.{fragment_at}
@@ -28,7 +28,7 @@ use Rattle.tables.specs.Quantiser.{tables_of}
 use Rattle.wire.specs.Readable.{read_refused}
 use Rattle.demands.proofs.History.{small_accepted, take_calls}
 use Rattle.demands.specs.History.{State, state, packet_in, answer_in}
-use Rattle.demands.specs.Refusals.{of_tables, of_sender, of_builder, of_reader, unchanging, is_one_of, Refused, TablesRefuse, SenderRefuses, BuilderRefuses, ReaderRefuses, OpeningRefuses, ReceiverRefuses, CallsLeaveAll, RecordsLeaveAll}
+use Rattle.demands.specs.Refusals.{of_tables, of_sender, of_builder, of_reader, unchanging, is_one_of, Refused, TablesRefuse, SenderRefuses, BuilderRefuses, ReaderRefuses, OpeningRefuses, ReceiverRefuses, CallsLeaveAll, RecordsLeaveAll, NextRecordsLeaveAll}
 
 -- where checks decide
 refused : {short : Refusal} {before after : List ℕ} {w : Written} (numbers : List ℕ) (checks : List Check) (bytes : List ℕ) → Writes short (decided (judged checks) bytes) before w after → is_one_of (Reply.success ∷ numbers) (number short) ≡ true → numbered (is_one_of (Reply.success ∷ numbers)) checks ≡ true → (w.reply ≡ Reply.success → ⊥) → Refused numbers before w after
@@ -94,3 +94,7 @@ pub take_record : RecordsLeaveAll
 take_record r area bytes t after met none =
     let same = calls_unchanged (state r area) (packet_in (front bytes)) (answer_in t.came) (state t.receiver after) (take_calls r area bytes t after met) none in
     (ap (λ (x : State). x.receiver) same, ap (λ (x : State). x.area) same)
+
+-- So does `records::take_next`, which takes the bytes that came.
+pub take_next : NextRecordsLeaveAll
+take_next left r area before buffer t unfailed after left_after next = take_record r area (take next.n buffer) t after next.takes

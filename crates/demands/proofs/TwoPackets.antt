@@ -31,7 +31,7 @@ use Rattle.demands.specs.TwoPackets.{older, foreign, area, before, stamp, arriva
 
 pub computed : Computed
 unfolding computes_step
-computed = record { foreign_read = refl; older_read = refl; bears = refl; holds = refl; lent = refl; replies = refl; second_held = refl; whole = refl; bytes = refl }
+computed = record { foreign_read = refl; other_source_is_14 = refl; older_read = refl; bears = refl; holds = refl; lent = refl; replies = refl; second_held = refl; whole = refl; bytes = refl }
 
 pub of_two : (P : ℕ → Type 0) → P 0 → P 1 → (k : ℕ) → k < 2 → P k
 of_two P a b zero i = a

@@ -7,6 +7,7 @@ use Rattle.receiver.specs.Time.{is_newer}
 use Rattle.receiver.specs.Verdict.{verdict}
 use Rattle.replies.specs.Checks.{judged}
 use Rattle.replies.specs.Checks.{Passed}
+use Rattle.replies.specs.Refusal.{number}
 use Rattle.replies.specs.declared.Refusal.TheVariants as Refusal
 use Rattle.sender.specs.Cuts.{cuts}
 use Rattle.sender.specs.Picture.{Picture, picture}
@@ -71,3 +72,5 @@ pub record BothSides : Type 0 where
   pub half_way_less_1_starts : starts (held_at 0) (stamped (2 ^ 31 - 1)) ≡ true
   pub half_way : is_newer (2 ^ 31) 0 ≡ false
   pub half_way_past : verdict (held_at 0) [] [] (stamped (2 ^ 31)) ≡ Err Refusal.Past
+  pub index_too_large_is_45 : number Refusal.IndexTooLarge ≡ 45
+  pub past_is_22 : number Refusal.Past ≡ 22

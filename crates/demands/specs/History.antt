@@ -1,5 +1,5 @@
 -- A history of calls, a packet each. Assumes nothing.
-use Rattle.std.specs.Prelude.{ℕ, List, [], ◌∷◌, ◌⊎◌, ◌≡◌, length, ◌++◌}
+use Rattle.std.specs.Prelude.{ℕ, Bool, List, Option, [], ◌∷◌, ◌⊎◌, ◌≡◌, length, take, ◌++◌}
 use Rattle.laws.specs.Each.{Each}
 use Rattle.receiver.specs.Step.{received, area_after, Receives}
 use Rattle.records.specs.Framing as Framing
@@ -13,6 +13,7 @@ use Rattle.state.specs.declared.Opened.{Opened}
 use Rattle.state.specs.declared.Receiver.{Receiver}
 use Rattle.wire.specs.Field.{Bytes}
 use Rattle.laws.specs.Within.{Between}
+use Rattle.records.specs.Reading.{TakesNext}
 use Rattle.records.specs.Taking.{Takes}
 use Rattle.records.specs.declared.Taken.{Taken}
 use Rattle.state.specs.Receiver.{fresh}
@@ -26,8 +27,8 @@ abbrev pub state : Receiver → List ℕ → State
 state receiver area = record { receiver = receiver; area = area }
 
 -- Calls of `receiver::receive` or of `ljosvark::lj_receive`, a packet each and an answer to each: every call meets its contract, and is
--- handed receiver and area as the last one left them. Other calls may stand between them: but for `records::take`, of which below,
--- none takes a receiver or its area to change it.
+-- handed receiver and area as the last one left them. Other calls may stand between them: but for `records::take` and
+-- `records::take_next`, of which below, none takes a receiver or its area to change it.
 abbrev pub Calls : State → List (List ℕ) → List Answer → State → Type 0
 Calls x [] [] y = x ≡ y
 Calls x [] (a ∷ answered) y = ⊥
@@ -105,6 +106,10 @@ CallsGoOn = (x : State) (packets : List (List ℕ)) (answered : List Answer) (y 
 
 abbrev pub RecordsAreCalls : Type 0
 RecordsAreCalls = (r : Receiver) (area bytes : List ℕ) (t : Taken) (after : List ℕ) → Takes r area bytes t after → Calls (state r area) (packet_in (front bytes)) (answer_in t.came) (state t.receiver after)
+
+-- and a call of `records::take_next` is one of `records::take` with the bytes that came
+abbrev pub NextRecordsAreCalls : Type 0
+NextRecordsAreCalls = (left : Option (List ℕ)) (r : Receiver) (area before buffer : List ℕ) (t : Taken) (unfailed : Bool) (after : List ℕ) (left_after : Option (List ℕ)) → (next : TakesNext left r area before buffer t unfailed after left_after) → Calls (state r area) (packet_in (front (take next.n buffer))) (answer_in t.came) (state t.receiver after)
 
 abbrev pub RecordsAreOfBytes : Type 0
 RecordsAreOfBytes = (bytes : List ℕ) → Bytes bytes → Each Bytes (packet_in (front bytes))

@@ -1,6 +1,6 @@
 -- A refusal has a number, gives back the receiver that it was handed, and changes no byte that it was lent; so does Again, which is no
 -- refusal. Assumes nothing.
-use Rattle.std.specs.Prelude.{ℕ, Bool, true, List, [], ◌∷◌, ◌++◌, ◌≡◌, eqb, Err}
+use Rattle.std.specs.Prelude.{ℕ, Bool, true, List, Option, [], ◌∷◌, ◌++◌, ◌≡◌, eqb, Err}
 use Rattle.laws.specs.Any.{any}
 use Rattle.receiver.specs.Step.{held, Receives}
 use Rattle.receiver.specs.declared.Received.{Received}
@@ -11,6 +11,7 @@ use Rattle.replies.specs.Refusal.{number}
 use Rattle.state.specs.declared.Receiver.{Receiver}
 use Rattle.builder.specs.Building.{Builds}
 use Rattle.laws.specs.Each.{Each}
+use Rattle.records.specs.Reading.{TakesNext}
 use Rattle.records.specs.Taking.{Takes}
 use Rattle.records.specs.declared.Taken.{Taken}
 use Rattle.sender.specs.Picture.{Picture}
@@ -93,3 +94,7 @@ CallsLeaveAll = (x : State) (packets : List (List ℕ)) (answered : List Answer)
 -- and so does `records::take` at the end of a stream, in a cut record, and with a packet that is not accepted.
 abbrev pub RecordsLeaveAll : Type 0
 RecordsLeaveAll = (r : Receiver) (area bytes : List ℕ) (t : Taken) (after : List ℕ) → Takes r area bytes t after → Each NotAccepted (answer_in t.came) → (t.receiver ≡ r) × (after ≡ area)
+
+-- So does `records::take_next`, which takes the bytes that came.
+abbrev pub NextRecordsLeaveAll : Type 0
+NextRecordsLeaveAll = (left : Option (List ℕ)) (r : Receiver) (area before buffer : List ℕ) (t : Taken) (unfailed : Bool) (after : List ℕ) (left_after : Option (List ℕ)) → TakesNext left r area before buffer t unfailed after left_after → Each NotAccepted (answer_in t.came) → (t.receiver ≡ r) × (after ≡ area)

@@ -3,6 +3,7 @@
 use Rattle.std.specs.Prelude.{ℕ, List, [], ◌∷◌, map, ◌≡◌, length, get_or, take, replicate, Ok, Err}
 use Rattle.fragments.specs.Fragments.{fragment_at}
 use Rattle.fragments.specs.declared.Fragment.{Fragment}
+use Rattle.replies.specs.Refusal.{number}
 use Rattle.replies.specs.declared.Refusal.TheVariants as Refusal
 use Rattle.sender.specs.Cuts.{cuts}
 use Rattle.sender.specs.Packet as Sender
@@ -60,6 +61,7 @@ time_in (Ok s) = s.time
 -- What the definitions come to here.
 pub record Computed : Type 0 where
   pub foreign_read : reading 1 foreign ≡ Err Refusal.OtherSource
+  pub other_source_is_14 : number Refusal.OtherSource ≡ 14
   pub older_read : time_in (reading 1 older) ≡ 999
   pub bears : before.receiver.source ≡ 1
   pub holds : before.receiver.time ≡ 999

@@ -7,9 +7,9 @@ ghost use Rattle.demands.specs.Demand3.{SentDelivery, CutDelivery, StepsDeliver,
 ghost use Rattle.demands.specs.Determined.{RefusalIsDetermined, SuccessIsDetermined, RefusalNumberIsDetermined, OutcomesAreTold, MakeTablesIsDetermined, ReadIsDetermined, ScanIsDetermined, TablesIsDetermined, RestartsOfIsDetermined, TableSourceIsDetermined, IsLawfulIsDetermined, AreFullIsDetermined, PartIsDetermined, PutIsDetermined, AreSameIsDetermined, PacketIsDetermined, NoFragmentsIsDetermined, SurveyIsDetermined, PlaceIsDetermined, InsertIsDetermined, NoneIsDetermined, HasIsDetermined, FindIsDetermined, KeepIsDetermined, WellKeptIsDetermined, IsBlankIsDetermined, OpensIsDetermined, InspectIsDetermined, WholeFlagIsDetermined, ReceiveIsDetermined, ReceiveInPlaceIsDetermined, HeadLengthIsDetermined, PutHeadIsDetermined, BuildIsDetermined, RecordLengthIsDetermined, TakeRecordIsDetermined, TakeNextIsDetermined, NoCountsIsDetermined, AddCountIsDetermined, CloseCountsIsDetermined, AcceptedIsDetermined, NumberIsDetermined, FileNameIsDetermined};
 ghost use Rattle.demands.specs.FileCases.{FileCases};
 ghost use Rattle.demands.specs.GivenUp.{GivenUpForAnother, AnotherGivesUp, RepliesHavePlaces};
-ghost use Rattle.demands.specs.History.{ThereAreHistories, CallsGoOn, RecordsAreCalls, RecordsAreOfBytes};
+ghost use Rattle.demands.specs.History.{ThereAreHistories, CallsGoOn, RecordsAreCalls, NextRecordsAreCalls, RecordsAreOfBytes};
 ghost use Rattle.demands.specs.Reachable.{HistoriesReach, BuilderRefusesNeither, HistoriesAreSteps};
-ghost use Rattle.demands.specs.Refusals.{TablesRefuse, SenderRefuses, BuilderRefuses, ReaderRefuses, OpeningRefuses, ReceiverRefuses, CallsLeaveAll, RecordsLeaveAll};
+ghost use Rattle.demands.specs.Refusals.{TablesRefuse, SenderRefuses, BuilderRefuses, ReaderRefuses, OpeningRefuses, ReceiverRefuses, CallsLeaveAll, RecordsLeaveAll, NextRecordsLeaveAll};
 ghost use Rattle.demands.specs.ShutOut.{RefusingIsOut, SayingHeldIsOut, NeverWritingIsOut, ClaimingIsOut, ClaimedFilesAreOut, ConstantIsOut, InventedIsOut, CountByPacketIsOut, StepsCountHeld, SenderCutsAsSaid};
 ghost use Rattle.demands.specs.Transcript.{Transcript};
 ghost use Rattle.demands.specs.TwoPackets.{TranscriptDelivered, SentDelivered, TranscriptAsBrought, AnotherStartedLater, Computed};
@@ -19,12 +19,13 @@ ghost use Rattle.state.specs.declared.Answer.{Answer};
 ghost use Rattle.state.specs.declared.Receiver.{Receiver};
 ghost use Rattle.wire.specs.declared.Packet.{Packet};
 
-/// Calls of the receiver, one after the other, are histories; calls of `records::take` are such calls.
+/// Calls of the receiver, one after the other, are histories; calls of `records::take` and of `records::take_next` are such calls.
 pub fn histories()
     ensures there_are { (source room : ℕ) (area : List ℕ) (packets : List (List ℕ))
         → ThereAreHistories source room area packets }
     ensures going_on { CallsGoOn }
     ensures records { RecordsAreCalls }
+    ensures next_records { NextRecordsAreCalls }
     ensures of_bytes { RecordsAreOfBytes }
 {}
 
@@ -46,6 +47,7 @@ pub fn refuses()
     ensures receive { ReceiverRefuses }
     ensures calls { CallsLeaveAll }
     ensures take_record { RecordsLeaveAll }
+    ensures take_next { NextRecordsLeaveAll }
 {}
 
 /// Any two outcomes that meet a contract, at the same inputs, are equal.

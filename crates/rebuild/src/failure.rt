@@ -1,4 +1,6 @@
 // What the system refused, for people to read.
+ghost use Rattle.std.specs.Prelude.{◌≤◌, length};
+
 use std::io;
 use std::io::Write;
 
@@ -14,7 +16,9 @@ pub(crate) fn say(errors: &impl Print, what: &[u8], error: &io::Error) {
 }
 
 // The reason in an error's text, in front of the zeros: `Display` puts the error's number behind it.
-fn reason(text: &[u8]) -> &[u8] {
+fn reason(text: &[u8]) -> &[u8]
+    ensures { length result.now ≤ length text.now }
+{
     let written = text.iter().position(|byte| *byte == 0);
     let text = &text[..written.unwrap_or(text.len())];
     let reason = text

@@ -1,10 +1,12 @@
 // Bytes that a line spells: pairs of hex digits, apart by single spaces or not at all. 10*128 spells 128 bytes of 10.
-ghost use Rattle.std.specs.Prelude.{◌<◌, IfSome, length};
+ghost use Rattle.std.specs.Prelude.{◌<◌, ◌≤◌, IfSome, length};
 
 use crate::text::number;
 
 // The bytes that the line spells to its end, in the front of `out`; none where the line is wrong or `out` is full.
-pub(crate) fn read_hex<'a>(line: &[u8], out: &'a mut [u8]) -> Option<&'a [u8]> {
+pub(crate) fn read_hex<'a>(line: &[u8], out: &'a mut [u8]) -> Option<&'a [u8]>
+    ensures { IfSome result (λ bytes. length bytes.now ≤ length out.old) }
+{
     let mut rest = line;
     let mut n = 0;
     while !rest.is_empty() {

@@ -19,13 +19,25 @@ pub(crate) fn run(rt: &impl Print, line: &[u8]) -> Option<()> {
     })
 }
 
-// Shows of the packet what the case asks for, where the packet is read.
 fn read<Show: Fn(&[u8], Packet)>(rt: &impl Print, line: &[u8], show: Show) -> Option<()>
     requires { Show.IsAlwaysCallable show }
 {
-    let (source, rest) = next_number(line)?;
+    let (source, bytes) = next_number(line)?;
+    read_from(rt, source, bytes, show)
+}
+
+// Shows of the packet what the case asks for, where the packet is read. By itself: an array is set where its function begins, and a line
+// without a source is not to pay for this one.
+fn read_from<Show: Fn(&[u8], Packet)>(
+    rt: &impl Print,
+    source: u32,
+    bytes: &[u8],
+    show: Show,
+) -> Option<()>
+    requires { Show.IsAlwaysCallable show }
+{
     let mut buffer = [0u8; 65536];
-    let packet = read_hex(rest, &mut buffer)?;
+    let packet = read_hex(bytes, &mut buffer)?;
     match wire::read(source, packet) {
         Err(refusal) => write_number(rt, refusal.number()),
         Ok(said) => {

@@ -5,7 +5,9 @@ use std::fmt::Display;
 use std::io::Read;
 
 // The next line of the input, without its end; none at the input's end. One that is longer than the buffer is read as several.
-pub(crate) fn read_line<'a>(input: &mut impl Read, buffer: &'a mut [u8]) -> Option<&'a [u8]> {
+pub(crate) fn read_line<'a>(input: &mut impl Read, buffer: &'a mut [u8]) -> Option<&'a [u8]>
+    ensures { IfSome result (λ line. length line.now ≤ length buffer.old) }
+{
     let mut length = 0;
     for place in buffer.iter_mut() {
         match read_byte(input) {

@@ -1,4 +1,4 @@
-use Rattle.demands.proofs.Refusals.{make_tables, packet, build, read, opens, receive, calls_unchanged, take_record}
+use Rattle.demands.proofs.Refusals.{make_tables, packet, build, read, opens, receive, calls_unchanged, take_record, take_next}
 use Rattle.demands.proofs.refuses.Goals as goal
 
 pub returns-clause-make_tables : goal.returns-clause-make_tables
@@ -24,3 +24,6 @@ returns-clause-calls c = calls_unchanged
 
 pub returns-clause-take_record : goal.returns-clause-take_record
 returns-clause-take_record c = take_record
+
+pub returns-clause-take_next : goal.returns-clause-take_next
+returns-clause-take_next c = take_next
