@@ -148,11 +148,12 @@ fn well_formed(receiver: &Receiver, survey: Surveyed) -> bool
 {
     let header = Header::from(receiver);
     let count = receiver.fragment_count;
-    let picture = check::picture_right(receiver.picture, receiver.time, count, header);
-    let fragments = check::fragments_right(survey, receiver.room, receiver.end, receiver.whole);
-    let tables = check::tables_right(survey.from_0, receiver.q, &receiver.tables);
-    let kept = kept::well_kept(&receiver.kept);
-    is_room(receiver.room) && count <= 64 && picture && fragments && tables && kept
+    is_room(receiver.room)
+        && count <= 64
+        && check::picture_right(receiver.picture, receiver.time, count, header)
+        && check::fragments_right(survey, receiver.room, receiver.end, receiver.whole)
+        && check::tables_right(survey.from_0, receiver.q, &receiver.tables)
+        && kept::well_kept(&receiver.kept)
 }
 
 // The flag of a whole picture: 1 where the end is known and the bytes held add up to it.

@@ -4,8 +4,8 @@ use Rattle.std.proofs.lemmas.Grind.{common_steps}
 use Rattle.state.proofs.Grouped.{all_told}
 use Rattle.state.proofs.well_formed.Goals as goal
 
-pub returns-then-tables : goal.returns-then-tables
-returns-then-tables c = grind (arith, common_steps, all_told c.args.receiver.now c.requires)
+pub returns-then-tables_right : goal.returns-then-tables_right
+returns-then-tables_right c = grind (arith, common_steps, all_told c.args.receiver.now c.requires)
 
-pub returns-else-tables : goal.returns-else-tables
-returns-else-tables c = grind (arith, common_steps, all_told c.args.receiver.now c.requires)
+pub returns-else-tables_right : goal.returns-else-tables_right
+returns-else-tables_right c = grind (arith, common_steps, all_told c.args.receiver.now c.requires)
